@@ -1,0 +1,16 @@
+//! Names, numbers and the plain types that every other crate of the workspace speaks of.
+#![tactic(auto)]
+
+mod hop;
+mod key_name;
+mod layout_error;
+mod memory;
+mod name;
+mod profile;
+
+pub use hop::{Body, Field, HopName, Level};
+pub use key_name::{Holder, KeyName};
+pub use layout_error::LayoutError;
+pub use memory::OutOfMemory;
+pub use name::{AsId, HostId};
+pub use profile::Profile;
