@@ -10,6 +10,9 @@ mod hop;
 mod key_name;
 mod layout_error;
 mod memory;
+mod message;
+mod message_laws;
+mod moment;
 mod name;
 mod passed;
 mod path_error;
@@ -29,6 +32,12 @@ pub use hop::{Body, Field, HopName, Level};
 pub use key_name::{Holder, KeyName};
 pub use layout_error::LayoutError;
 pub use memory::OutOfMemory;
+pub use message::{
+    as_key_message, authenticator_message, dest_key_message, field1_message, field23_message,
+    forwarding_message, host_key_message, link_message, secret_message,
+};
+pub use message_laws::{field_messages, hop_messages, message_kinds};
+pub use moment::{MAX_MOMENT, is_expired, valid_until};
 pub use name::{AsId, HostId};
 pub use passed::{PassResult, Passed, PassedList, Place};
 pub use path_error::PathError;
