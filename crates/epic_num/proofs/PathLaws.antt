@@ -70,8 +70,8 @@ different_more (b ∷ asns) a e new =
     let apart = neither (same_as a b) (list_any (λ c. same_as a c) asns) new in
     let last : (same_as b a || false) ≡ false = neither_so (same_as b a) false (same_as-flip b a ∙ apart.0) refl in
     let absent : list_any (λ c. same_as b c) (asns ++ a ∷ []) ≡ false =
-      list_any-append (λ c. same_as b c) asns (a ∷ [])
-      ∙ neither_so (list_any (λ c. same_as b c) asns) (same_as b a || false) (not_so (list_any (λ c. same_as b c) asns) parts.0) last in
+    list_any-append (λ c. same_as b c) asns (a ∷ [])
+    ∙ neither_so (list_any (λ c. same_as b c) asns) (same_as b a || false) (not_so (list_any (λ c. same_as b c) asns) parts.0) last in
     both_so (not (list_any (λ c. same_as b c) (asns ++ a ∷ []))) (are_different (asns ++ a ∷ [])) (ap not absent) (different_more asns a parts.1 apart.1)
 
 -- what a well-formed segment is, place by place
@@ -173,8 +173,8 @@ lawful legs e =
     let kind = λ (l : Leg). kind_of l.segment.kind l.against in
     let count : (1 ≤ length legs) × (length legs ≤ 3) = simp length-map at (some_kinds (map kind legs) each.0) in
     let at = λ (k : ℕ) (d : Leg) (h : k < length legs).
-      both (is_well_formed (get_or legs k d).segment) (nat_le (length (get_or legs k d).segment.hops.items) 16)
-      (All-get_or (λ l. fits l ≡ true) legs k d h (AllPass-from_list_all fits legs each.1)) in
+    both (is_well_formed (get_or legs k d).segment) (nat_le (length (get_or legs k d).segment.hops.items) 16)
+    (All-get_or (λ l. fits l ≡ true) legs k d h (AllPass-from_list_all fits legs each.1)) in
     record {
       some = omega (arith, count.0);
       few = omega (arith, count.1);
