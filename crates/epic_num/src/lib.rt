@@ -23,6 +23,8 @@ mod path_ref;
 mod profile;
 mod segment;
 mod send_error;
+#[cfg(test)]
+mod tests;
 mod turn;
 mod verdict;
 
