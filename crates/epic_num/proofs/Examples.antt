@@ -1,25 +1,20 @@
 -- The definitions at work: an up segment 3, 2, 1, a core segment 1, 4 and a down segment 4, 5.
 use Rattle.std.proofs.Common.{◌≡◌, ℕ, List, [], ◌∷◌, refl}
-use Rattle.std.specs.Prelude.{Bool, true, false, ◌==◌, map}
-use Rattle.epic_num.specs.declared.name.AsId.{AsId}
-use Rattle.epic_num.specs.declared.name.HostId.{HostId}
+use Rattle.std.specs.Prelude.{Bool, true, false, map}
 use Rattle.epic_num.specs.declared.hop.Body.{Body}
 use Rattle.epic_num.specs.declared.hop.HopName.{HopName}
-use Rattle.epic_num.specs.declared.key_name.Holder.{Holder}
 use Rattle.epic_num.specs.declared.key_name.Holder.TheVariants.{As, Host}
-use Rattle.epic_num.specs.declared.key_name.KeyName.TheVariants.{Fwd, Field, Dest}
+use Rattle.epic_num.specs.declared.key_name.KeyName.TheVariants.{Field}
 use Rattle.epic_num.specs.declared.profile.Profile.{Profile}
 use Rattle.epic_num.specs.declared.segment.Leg.{Leg}
 use Rattle.epic_num.specs.declared.segment.SegHop.{SegHop}
 use Rattle.epic_num.specs.declared.segment.SegKind.{SegKind}
 use Rattle.epic_num.specs.declared.segment.SegKind.TheVariants.{Core, Child}
 use Rattle.epic_num.specs.declared.segment.Segment.{Segment}
-use Rattle.epic_num.specs.Bodies.{body_bytes}
-use Rattle.epic_num.specs.BigEndian.{u16_bytes, u32_bytes}
 use Rattle.epic_num.specs.Chains.{Issue, issue_at, last_names, chain, is_ended, ended_issues}
 use Rattle.epic_num.specs.Holders.{holders, is_among}
-use Rattle.epic_num.specs.Moments.{valid_until, bucket, live_buckets, is_live}
-use Rattle.epic_num.specs.Paths.{start_of, end_of, meets, are_joined, kind_of, are_lawful_kinds, hop_count, is_lawful, travelled, path_hops, path_start, path_end}
+use Rattle.epic_num.specs.Moments.{bucket, live_buckets, is_live}
+use Rattle.epic_num.specs.Paths.{start_of, end_of, meets, are_joined, kind_of, are_lawful_kinds, hop_count, is_lawful, travelled, path_hops}
 use Rattle.epic_num.specs.Same.{same_as, same_host, same_holder}
 use Rattle.epic_num.specs.Segments.{are_placed_from, are_different, first_hop, last_hop, first_as, last_as, have_one_ts_path, are_closed, is_well_formed}
 

@@ -1,16 +1,14 @@
 -- Equal messages are made over the same.
-use Rattle.std.proofs.Common.{◌≡◌, ℕ, ◌<◌, ◌^◌, List, [], ◌∷◌, ◌++◌, length, refl, sym, ◌∙◌, ap, subst}
+use Rattle.std.proofs.Common.{◌≡◌, ℕ, [], refl, sym, ◌∙◌, ap, subst}
 use Rattle.std.specs.Prelude.{Bool, true, false, ◌||◌, ◌==◌, IsTrue, if◌then◌else◌}
 use Rattle.std.proofs.lemmas.Cmp.{nat_eq_equiv}
 use Rattle.std.proofs.lemmas.Map.Made.{IsDistinct-from_count}
 use Rattle.std.proofs.lemmas.Bool.{eqb-true}
-use Rattle.epic_num.specs.declared.name.HostId.{HostId}
 use Rattle.epic_num.specs.declared.hop.Body.{Body}
-use Rattle.epic_num.specs.BigEndian.{u16_bytes, u32_bytes, u64_bytes}
 use Rattle.epic_num.specs.Bodies.{body_bytes, IsBody}
 use Rattle.epic_num.specs.Levels.{is_tagged}
-use Rattle.epic_num.specs.Messages.{host_bytes, authenticator_message, link_message, field1_message, field_domain, field23_message, dest_domain, domains, IsHost, IsFieldContent, SameFieldContent, FieldMessagesDiffer, Field1MessagesDiffer, AuthenticatorMessagesDiffer, LinkMessagesDiffer, DomainsDiffer}
-use Rattle.epic_num.proofs.Reading.{read_one, read_part, read_u16, read_u32, read_u64, read_host}
+use Rattle.epic_num.specs.Messages.{authenticator_message, link_message, field1_message, field_domain, field23_message, dest_domain, domains, FieldMessagesDiffer, Field1MessagesDiffer, AuthenticatorMessagesDiffer, LinkMessagesDiffer, DomainsDiffer}
+use Rattle.epic_num.proofs.Reading.{read_one, read_u16, read_u32, read_u64, read_host}
 
 -- ---- hops
 
