@@ -1,2 +1,4 @@
 pub mod Appended
+mod Counting
 mod HasFront
+mod SinkAnswers

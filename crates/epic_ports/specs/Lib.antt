@@ -1,3 +1,5 @@
+pub mod FaultCounts
 pub mod Faults
 pub mod Files
+pub mod MemSink
 pub mod Written
