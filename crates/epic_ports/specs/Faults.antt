@@ -29,11 +29,11 @@ pub record CountsFault (name : List ℕ) (old new : List ℕ → ℕ) : Type 0 w
   pub later : old name ≤ new name
   pub others : (q : List ℕ) → q ≢ name → new q ≡ old q
 
--- a call answers Failed only where the count rose in it
+-- a call answers Failed only where the count rose in it; where memory ran out the count stayed
 abbrev pub FailsBy : {X : Type 0} → ℕ → ℕ → Result X PortError → Type 0
 FailsBy before now (Ok x) = ⊤
 FailsBy before now (Err Failed) = Rose before now
-FailsBy before now (Err OutOfMemory) = ⊤
+FailsBy before now (Err OutOfMemory) = now ≡ before
 
 -- the same of a call that takes no memory, so that Failed is its only error
 abbrev pub FailsOnlyBy : {X : Type 0} → ℕ → ℕ → Result X PortError → Type 0

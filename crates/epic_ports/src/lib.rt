@@ -6,6 +6,7 @@
 mod counts;
 pub mod disk_store;
 pub mod error;
+mod mem_file;
 pub mod mem_sink;
 pub mod sink;
 pub mod std_sink;
