@@ -1,6 +1,7 @@
 pub mod FaultCounts
 pub mod Faults
 pub mod Files
+pub mod MemFiles
 pub mod MemSink
 pub mod MemStore
 pub mod Written
