@@ -19,4 +19,4 @@ pub use memory::OutOfMemory;
 pub use name::{AsId, HostId};
 pub use profile::Profile;
 pub use read::{read_as, read_host, read_number};
-pub use spelling::Spelling;
+pub use spelling::{Spelling, as_has_one_spelling, host_has_one_spelling, number_has_one_spelling};
