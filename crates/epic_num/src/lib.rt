@@ -1,6 +1,5 @@
 //! Names, numbers and the plain types that every other crate of the workspace speaks of.
 #![tactic(auto)]
-
 mod answer;
 mod arrival;
 mod beacon_error;
@@ -21,8 +20,12 @@ mod path;
 mod path_error;
 mod path_ref;
 mod profile;
+mod read;
+mod read_numeral;
+mod read_parts;
 mod segment;
 mod send_error;
+mod spelling;
 mod turn;
 mod verdict;
 
@@ -49,7 +52,9 @@ pub use path::Path;
 pub use path_error::PathError;
 pub use path_ref::{PathList, PathRef};
 pub use profile::Profile;
+pub use read::{read_as, read_host, read_number};
 pub use segment::{Leg, SegHop, SegKind, Segment};
 pub use send_error::{NoKey, SendError};
+pub use spelling::{Spelling, as_has_one_spelling, host_has_one_spelling, number_has_one_spelling};
 pub use turn::{Check, Turn};
 pub use verdict::{Collision, ForgedKind, Forgery, Part, Verdict};
