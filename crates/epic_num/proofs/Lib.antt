@@ -3,6 +3,10 @@ mod Examples
 pub mod LevelLaws
 pub mod MessageLaws
 pub mod MomentLaws
+pub mod Numerals
+pub mod OneSpelling
+pub mod Parts
 pub mod PathLaws
 pub mod Reading
 pub mod SameLaws
+pub mod Spelled
