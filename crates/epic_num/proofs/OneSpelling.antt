@@ -6,7 +6,7 @@ use Rattle.std.specs.Option.{option_or}
 use Rattle.std.proofs.lemmas.Bool.{and_parts, and_from, eqb-true, lt-ltb, le-ltb, ltb-true, ltb-false}
 use Rattle.std.proofs.lemmas.List.Folds.{list_all-append}
 use Rattle.std.proofs.lemmas.Nat.{div-add-mod', div-mul-add, mod-mul-add}
-use Rattle.std.proofs.lemmas.Option.{same_Some}
+use Rattle.std.proofs.lemmas.Option.{none-some, same_Some}
 use Rattle.epic_num.specs.declared.name.HostId.{HostId}
 use Rattle.epic_num.specs.Names.{as_of, as_part_of, as_part_text, as_text, colon, comma, dash, group_of, groups_of, groups_text, hexadecimal, host_of, host_text, is_digit_of, isd_of, joined, low_groups_of, number_within, numeral_of, parted, small_part_of, within, IsReadable, IsReadableHost}
 use Rattle.epic_num.specs.Spellings.{HasOneSpelling}
@@ -77,7 +77,7 @@ pub map_unmarked : {A B : Type 0} (mark : ℕ) (h : A → B) (f : List ℕ → O
 map_unmarked {A} {B} mark h f u = record { none = λ t b e. by t b (f t) refl e }
   where
     by : (t : List ℕ) (b : B) (o : Option A) → f t ≡ o → option_map h (f t) ≡ Some b → list_all (λ c. not (c == mark)) t ≡ true
-    by t b None none e = let clash : None ≡ Some b = sym (ap (option_map h) none) ∙ e in cc
+    by t b None none e = absurd (none-some b (sym (ap (option_map h) none) ∙ e))
     by t b (Some a) some e = u.none t a some
 
 pub or_unmarked : {A : Type 0} (mark : ℕ) (f g : List ℕ → Option A) → IsUnmarked mark f → IsUnmarked mark g → IsUnmarked mark (λ t. option_or (f t) (g t))
@@ -273,7 +273,7 @@ host_spelling text h = (λ e. there (parted comma as_of (number_within most) tex
     host_at p = record { asn = record { 0 = p.0 }; host = p.1 }
 
     there : (o : Option (ℕ × ℕ)) → parted comma as_of (number_within most) text ≡ o → option_map host_at (parted comma as_of (number_within most) text) ≡ Some h → IsReadableHost h × (text ≡ host_text h)
-    there None none e = let clash : None ≡ Some h = sym (ap (option_map host_at) none) ∙ e in cc
+    there None none e = absurd (none-some h (sym (ap (option_map host_at) none) ∙ e))
     there (Some p) some e =
         let parts = parted_parts comma as_of (number_within most) text p some in
         let asn = (as_spelling parts.before p.0).0 parts.first in

@@ -4,7 +4,7 @@ use Rattle.std.specs.Option.{option_map, option_or, option_zip, option_and_then}
 use Rattle.std.specs.List.{list_all, prefix_len}
 use Rattle.std.proofs.Math.Seq.{drop-append-add}
 use Rattle.std.proofs.lemmas.Bool.{and_parts, eq-eqb, eqb-true, lt-ltb}
-use Rattle.std.proofs.lemmas.Option.{same_Some}
+use Rattle.std.proofs.lemmas.Option.{none-some, same_Some}
 use Rattle.std.proofs.lemmas.List.{length-append, length-take, length-drop, drop_more, take-append-drop, take_at}
 use Rattle.std.proofs.lemmas.List.Quantifiers.{position-Some}
 use Rattle.epic_num.specs.Names.{joined, parted}
@@ -103,7 +103,7 @@ pub parted_has_parts : {A B : Type 0} (mark : ℕ) (f : List ℕ → Option A) (
 parted_has_parts mark f g text a b e = by (position (λ c. c == mark) text) refl
   where
     by : (o : Option ℕ) → position (λ c. c == mark) text ≡ o → HasParts mark f g text a b
-    by None pos = let clash : None ≡ Some (a, b) = sym (parted_at mark f g text None pos) ∙ e in cc
+    by None pos = absurd (none-some (a, b) (sym (parted_at mark f g text None pos) ∙ e))
     by (Some i) pos = let r = both_read (f (take i text)) (g (drop (i + 1) text)) a b (sym (parted_at mark f g text (Some i) pos) ∙ e) in
         record {
           before = take i text;
@@ -135,7 +135,7 @@ pub joined_joins : (mark weight : ℕ) (f g : List ℕ → Option ℕ) (text : L
 joined_joins mark weight f g text n e = by (parted mark f g text) refl
   where
     by : (o : Option (ℕ × ℕ)) → parted mark f g text ≡ o → JoinsParts mark weight f g text n
-    by None none = let clash : None ≡ Some n = sym (ap (option_map (λ p. p.0 * weight + p.1)) none) ∙ e in cc
+    by None none = absurd (none-some n (sym (ap (option_map (λ p. p.0 * weight + p.1)) none) ∙ e))
     by (Some p) some = record {
       high = p.0;
       low = p.1;
