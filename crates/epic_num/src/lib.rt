@@ -1,6 +1,5 @@
 //! Names, numbers and the plain types that every other crate of the workspace speaks of.
 #![tactic(auto)]
-
 mod answer;
 mod arrival;
 mod beacon_error;
@@ -20,6 +19,7 @@ mod passed;
 mod path;
 mod path_error;
 mod path_ref;
+mod print;
 mod profile;
 mod read;
 mod read_numeral;
@@ -52,6 +52,7 @@ pub use passed::{PassResult, Passed, PassedList, Place};
 pub use path::Path;
 pub use path_error::PathError;
 pub use path_ref::{PathList, PathRef};
+pub use print::{print_as, print_host};
 pub use profile::Profile;
 pub use read::{read_as, read_host, read_number};
 pub use segment::{Leg, SegHop, SegKind, Segment};
