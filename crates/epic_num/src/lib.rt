@@ -7,6 +7,10 @@ mod layout_error;
 mod memory;
 mod name;
 mod profile;
+mod read;
+mod read_numeral;
+mod read_parts;
+mod spelling;
 
 pub use hop::{Body, Field, HopName, Level};
 pub use key_name::{Holder, KeyName};
@@ -14,3 +18,5 @@ pub use layout_error::LayoutError;
 pub use memory::OutOfMemory;
 pub use name::{AsId, HostId};
 pub use profile::Profile;
+pub use read::{read_as, read_host, read_number};
+pub use spelling::Spelling;
