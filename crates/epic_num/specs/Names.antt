@@ -1,5 +1,5 @@
 -- The texts of numbers, ASes and hosts. Each value has one text, which is printed and which alone is read.
-use Rattle.std.specs.Prelude.{◌≡◌, ℕ, ◌+◌, ◌*◌, ◌/◌, ◌%◌, ◌^◌, Bool, false, ◌&&◌, ◌||◌, not, List, [], ◌∷◌, ◌++◌, length, take, drop, Option, Some, None, option_map, option_and_then, decimal, nat_lt, nat_le, ◌==◌, if◌then◌else◌, position}
+use Rattle.std.specs.Prelude.{◌≡◌, ℕ, ◌+◌, ◌*◌, ◌/◌, ◌%◌, ◌^◌, ◌<◌, Bool, false, ◌&&◌, ◌||◌, not, List, [], ◌∷◌, ◌++◌, length, take, drop, Option, Some, None, option_map, option_and_then, decimal, nat_lt, nat_le, ◌==◌, if◌then◌else◌, position}
 use Rattle.std.specs.Char.{is_digit, is_ascii_uppercase}
 use Rattle.std.specs.Fmt.{digits}
 use Rattle.std.specs.List.{list_all}
@@ -47,9 +47,17 @@ as_part_text n = if nat_lt n (2 ^ 32) then decimal n else groups_text n
 unfoldable pub as_text : ℕ → List ℕ
 as_text a = decimal (isd_part a) ++ (dash ∷ as_part_text (as_part a))
 
+-- an AS that a text can name: neither its isolation domain nor its number there is 0
+abbrev pub IsReadable : ℕ → Type 0
+IsReadable a = (a < 2 ^ 64) × (0 < isd_part a) × (0 < as_part a)
+
 -- the text of a host
 unfoldable pub host_text : HostId → List ℕ
 host_text h = as_text h.asn.0 ++ (comma ∷ decimal h.host)
+
+-- a host that a text can name
+abbrev pub IsReadableHost : HostId → Type 0
+IsReadableHost h = IsReadable h.asn.0 × (h.host < 2 ^ 32)
 
 -- a digit of the base, if a letter then in lower case
 abbrev pub is_digit_of : ℕ → ℕ → Bool
