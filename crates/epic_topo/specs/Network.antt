@@ -1,5 +1,6 @@
 -- A topology as a value: its settings, its ASes and its links, and what can be asked of it.
-use Rattle.std.specs.Prelude.{ℕ, Bool, false, ◌&&◌, ◌||◌, ◌==◌, if◌then◌else◌, List, Option, find, is_some, unwrap_or, option_map, slice_get}
+use Rattle.std.specs.Prelude.{ℕ, Bool, false, not, ◌&&◌, ◌||◌, ◌==◌, if◌then◌else◌, List, [], ◌∷◌, ◌++◌, Option, find, is_some, unwrap_or, option_map, slice_get}
+use Rattle.epic_num.specs.Names.{isd_part}
 use Rattle.epic_num.specs.declared.name.AsId.{AsId}
 use Rattle.epic_num.specs.declared.profile.Profile.{Profile}
 use Rattle.epic_topo.specs.declared.link_kind.LinkKind.{LinkKind}
@@ -14,29 +15,33 @@ pub record Network : Type 0 where
   pub systems : List System
   pub links : List Link
 
--- the AS has this number
-abbrev pub is_numbered : AsId → System → Bool
-is_numbered asn s = s.asn.0 == asn.0
+-- ---- its ASes
+
+-- the two are one AS
+abbrev pub same_as : AsId → AsId → Bool
+same_as a b = a.0 == b.0
 
 -- the entry of an AS
 abbrev pub system_of : Network → AsId → Option System
-system_of t asn = find (is_numbered asn) t.systems
+system_of n asn = find (λ s. same_as s.asn asn) n.systems
 
 -- whether the topology has the AS
 unfoldable pub has : Network → AsId → Bool
-has t asn = is_some (system_of t asn)
+has n asn = is_some (system_of n asn)
 
 -- whether it has the AS, as a core AS
 unfoldable pub is_core : Network → AsId → Bool
-is_core t asn = unwrap_or (option_map (λ s. s.is_core) (system_of t asn)) false
+is_core n asn = unwrap_or (option_map (λ s. s.is_core) (system_of n asn)) false
 
 -- the master key of an AS
 unfoldable pub master : Network → AsId → Option (List ℕ)
-master t asn = option_map (λ s. s.master) (system_of t asn)
+master n asn = option_map (λ s. s.master) (system_of n asn)
 
 -- the AS at a place in the file, from 0
 unfoldable pub as_at : Network → ℕ → Option AsId
-as_at t i = option_map (λ s. s.asn) (slice_get t.systems i)
+as_at n i = option_map (λ s. s.asn) (slice_get n.systems i)
+
+-- ---- its links
 
 -- what a link is at the other end
 abbrev pub turned : LinkKind → LinkKind
@@ -45,21 +50,48 @@ turned Parent = Child
 turned Child = Parent
 
 -- the end is at that interface of the AS
-abbrev pub is_at_end : AsId → ℕ → End → Bool
-is_at_end asn iface e = (e.asn.0 == asn.0) && (e.iface == iface)
+abbrev pub is_end : AsId → ℕ → End → Bool
+is_end asn iface e = same_as e.asn asn && e.iface == iface
 
 -- the link ends at that interface of the AS
 abbrev pub ends_at : AsId → ℕ → Link → Bool
-ends_at asn iface l = is_at_end asn iface l.a || is_at_end asn iface l.b
+ends_at asn iface l = is_end asn iface l.a || is_end asn iface l.b
 
 -- the other end of a link that ends there, and what the link is for this AS
 abbrev pub other_end : AsId → ℕ → Link → AsId × ℕ × LinkKind
-other_end asn iface l = if is_at_end asn iface l.a then (l.b.asn, l.b.iface, l.kind) else (l.a.asn, l.a.iface, turned l.kind)
+other_end asn iface l =
+    if is_end asn iface l.a then (l.b.asn, l.b.iface, l.kind) else (l.a.asn, l.a.iface, turned l.kind)
 
 -- the link at an interface of an AS
 abbrev pub link_at : Network → AsId → ℕ → Option Link
-link_at t asn iface = find (ends_at asn iface) t.links
+link_at n asn iface = find (ends_at asn iface) n.links
 
 -- the other end of the link at an interface of an AS, and what the link is for this AS
 unfoldable pub neighbour : Network → AsId → ℕ → Option (AsId × ℕ × LinkKind)
-neighbour t asn iface = option_map (other_end asn iface) (link_at t asn iface)
+neighbour n asn iface = option_map (other_end asn iface) (link_at n asn iface)
+
+-- a link has this end
+abbrev pub is_taken : Network → End → Bool
+is_taken n e = is_some (neighbour n e.asn e.iface)
+
+-- the two are of one isolation domain
+abbrev pub same_isd : AsId → AsId → Bool
+same_isd a b = isd_part a.0 == isd_part b.0
+
+-- Core links join core ASes. A child is no core AS, and is of its parent's isolation domain.
+unfoldable pub keeps_core_rule : Network → Link → Bool
+keeps_core_rule n l = elim l.kind [
+  | Core ↦ is_core n l.a.asn && is_core n l.b.asn
+  | Parent ↦ not (is_core n l.b.asn) && same_isd l.a.asn l.b.asn
+  | Child ↦ not (is_core n l.a.asn) && same_isd l.a.asn l.b.asn
+]
+
+-- ---- a topology that grows
+
+-- with one more AS
+abbrev pub with_system : Network → System → Network
+with_system n s = record n { systems = n.systems ++ s ∷ [] }
+
+-- with one more link
+abbrev pub with_link : Network → Link → Network
+with_link n l = record n { links = n.links ++ l ∷ [] }

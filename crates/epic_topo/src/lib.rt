@@ -6,8 +6,10 @@ mod fault;
 mod link_kind;
 mod network;
 mod queries;
+mod reading;
 
 pub use fault::{TopoError, TopoKey, TopoKind};
 pub use link_kind::LinkKind;
 pub use network::{End, Link, System};
 pub use queries::Topology;
+pub use reading::read_topology;
