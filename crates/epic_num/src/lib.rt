@@ -1,5 +1,6 @@
 //! Names, numbers and the plain types that every other crate of the workspace speaks of.
 #![tactic(auto)]
+
 mod answer;
 mod arrival;
 mod beacon_error;
