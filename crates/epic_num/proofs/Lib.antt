@@ -10,3 +10,6 @@ pub mod PathLaws
 pub mod Reading
 pub mod SameLaws
 pub mod Spelled
+pub mod Fronts
+pub mod Misspelt
+pub mod Stopped
