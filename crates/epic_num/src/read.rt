@@ -55,3 +55,6 @@ pub fn read_number(text: &[u8], most: u64) -> Result<u64, Spelling>
         Err(at) => Err(Spelling { at: at as u32 }),
     }
 }
+
+#[cfg(test)]
+mod tests;

@@ -3,6 +3,7 @@ ghost use Rattle.epic_num.specs.Names.{as_of, as_part_of, group_of, groups_of, i
 ghost use Rattle.epic_num.specs.Spellings.{IsMisspelt};
 
 use crate::read_numeral::numeral;
+use crate::spelling::{AS_PARTS, GROUP_VALUES, SMALL_AS_PARTS};
 
 /// Reads an AS as a number. An error is the length of the longest front that begins an AS, here and below.
 pub(crate) fn as_number(text: &[u8]) -> Result<u64, usize>
@@ -15,7 +16,7 @@ pub(crate) fn as_number(text: &[u8]) -> Result<u64, usize>
     match (isd(&text[..i]), as_part(&text[i + 1..])) {
         (Err(at), _) => Err(at),
         (Ok(_), Err(at)) => Err(i + 1 + at),
-        (Ok(isd), Ok(part)) => Ok(isd * 0x1_0000_0000_0000 + part),
+        (Ok(isd), Ok(part)) => Ok(isd * AS_PARTS + part),
     }
 }
 
@@ -62,7 +63,7 @@ fn groups(text: &[u8]) -> Result<u64, usize>
     match (group(&text[..i], 1), low_groups(&text[i + 1..])) {
         (Err(at), _) => Err(at),
         (Ok(_), Err(at)) => Err(i + 1 + at),
-        (Ok(high), Ok(low)) => Ok(high * 0x1_0000_0000 + low),
+        (Ok(high), Ok(low)) => Ok(high * SMALL_AS_PARTS + low),
     }
 }
 
@@ -78,7 +79,7 @@ fn low_groups(text: &[u8]) -> Result<u64, usize>
     match (group(&text[..i], 0), group(&text[i + 1..], 0)) {
         (Err(at), _) => Err(at),
         (Ok(_), Err(at)) => Err(i + 1 + at),
-        (Ok(high), Ok(low)) => Ok(high * 0x1_0000 + low),
+        (Ok(high), Ok(low)) => Ok(high * GROUP_VALUES + low),
     }
 }
 
