@@ -22,3 +22,6 @@ pub use sink::Sink;
 pub use std_sink::StdSink;
 pub use store::Store;
 pub use whole::{read_whole, write_all};
+
+#[cfg(test)]
+mod tests;
