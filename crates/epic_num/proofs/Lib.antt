@@ -1,7 +1,7 @@
-pub mod Numerals
-pub mod Parts
-pub mod Spelled
-pub mod OneSpelling
 pub mod Fronts
 pub mod Misspelt
+pub mod Numerals
+pub mod OneSpelling
+pub mod Parts
+pub mod Spelled
 pub mod Stopped
