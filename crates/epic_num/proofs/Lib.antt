@@ -12,4 +12,8 @@ pub mod SameLaws
 pub mod Spelled
 pub mod Fronts
 pub mod Misspelt
+pub mod Numerals
+pub mod OneSpelling
+pub mod Parts
+pub mod Spelled
 pub mod Stopped
