@@ -49,7 +49,8 @@ calls_after calls (Err Failed) = next_count calls
 calls_after calls (Err OutOfMemory) = calls
 
 -- a fault of this name is counted where the call failed, and nothing else
-abbrev pub CountsWhere : {X : Type 0} → List ℕ → (List ℕ → ℕ) → (List ℕ → ℕ) → Result X PortError → Type 0
+abbrev pub CountsWhere : {X : Type 0}
+    → List ℕ → (List ℕ → ℕ) → (List ℕ → ℕ) → Result X PortError → Type 0
 CountsWhere name old new (Ok x) = new ≡ old
 CountsWhere name old new (Err Failed) = CountsFault name old new
 CountsWhere name old new (Err OutOfMemory) = new ≡ old

@@ -68,7 +68,8 @@ pub(crate) fn read_piece(files: &[MemFile], name: &str, at: u64, buf: &mut [u8])
 
 /// Makes a file empty, whether it is there or not.
 pub(crate) fn empty_file(files: &mut Vec<MemFile>, name: &str) -> Result<(), AllocError>
-    ensures ok { OnOk result (Replaces (told_in files.old.items) (told_in files.new.items) name.now []) }
+    ensures ok { OnOk result (Replaces (told_in files.old.items) (told_in files.new.items) name.now
+        []) }
     ensures err { OnErr result (files_in files.new.items ≡ files_in files.old.items) }
 {
     match place_of(files, name) {

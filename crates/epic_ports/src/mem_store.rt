@@ -60,12 +60,14 @@ impl MemStore {
 }
 
 impl Store for MemStore {
-    ghost use Rattle.std.specs.Prelude.{◌≡◌, ◌||◌, ◌<◌, [], Ok, IfOk, OnOk, OnErr, is_none, length, take};
+    ghost use Rattle.std.specs.Prelude.{◌≡◌, ◌||◌, ◌<◌, [], Ok, IfOk, OnOk, OnErr, is_none, length};
+    ghost use Rattle.std.specs.Prelude.{take};
     ghost use Rattle.std.specs.Io.{ReadsAtMost};
     ghost use Rattle.epic_ports.specs.Faults.{CountsOnly, FailsBy};
     ghost use Rattle.epic_ports.specs.Files.{KeepsFiles, Replaces, Grows, ReadsPiece};
     ghost use Rattle.epic_ports.specs.MemStore.{CountsCall, CountsWhere, FailsWhere};
-    ghost use Rattle.epic_ports.specs.MemStore.{contents_of, told_of, is_next_listed, reads_of, writes_of};
+    ghost use Rattle.epic_ports.specs.MemStore.{contents_of, is_next_listed, reads_of, told_of};
+    ghost use Rattle.epic_ports.specs.MemStore.{writes_of};
     ghost use Rattle.epic_ports.specs.Written.{TakesSome};
     ghost use Rattle.epic_ports.specs.MemFiles.{finite_files};
 

@@ -13,7 +13,7 @@ use crate::error::PortError;
 /// own name rose in it: the count of reads in `read_at`, that of writes in `create` and `append`. A
 /// count at the end of its type counts as risen. A call that answers an error leaves the contents,
 /// and no call changes another name's contents or count. `PortError::OutOfMemory` may come before a
-/// call has acted; an implementation makes room for a name's counts first.
+/// call has acted, and leaves the counts too; an implementation makes room for a name's counts first.
 pub trait Store {
     ghost contents: { Self → Option Files };
 
@@ -46,7 +46,8 @@ pub trait Store {
     fn append(&mut self, name: &str, bytes: &[u8]) -> Result<usize, PortError>
         ensures bound { TakesSome result bytes.now }
         ensures nothing { bytes.now ≡ [] → result ≡ Ok 0 }
-        ensures bytes { IfOk result (λ n. Grows (contents self.old) (contents self.new) name.now (take n bytes.now)) }
+        ensures bytes { IfOk result (λ n.
+            Grows (contents self.old) (contents self.new) name.now (take n bytes.now)) }
         ensures err { OnErr result (KeepsFiles (contents self.old) (contents self.new)) }
         ensures reads { reads self.new ≡ reads self.old }
         ensures writes { CountsOnly name.now (writes self.old) (writes self.new) }
