@@ -3,12 +3,14 @@
 #![tactic(auto)]
 
 mod fault;
+mod laws;
 mod link_kind;
 mod network;
 mod queries;
 mod reading;
 
 pub use fault::{TopoError, TopoKey, TopoKind};
+pub use laws::{each_as_has_one_place, links_lead_back, texts_tell_of_lawful_topologies};
 pub use link_kind::LinkKind;
 pub use network::{End, Link, System};
 pub use queries::Topology;
