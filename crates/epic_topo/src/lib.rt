@@ -8,6 +8,8 @@ mod link_kind;
 mod network;
 mod queries;
 mod reading;
+#[cfg(test)]
+mod tests;
 
 pub use fault::{TopoError, TopoKey, TopoKind};
 pub use laws::{each_as_has_one_place, links_lead_back, texts_tell_of_lawful_topologies};
