@@ -1,11 +1,11 @@
 -- What is read is in its ranges, and a link that is read fits into the topology.
-use Rattle.std.proofs.Common.{◌≡◌, ℕ, ◌+◌, ◌^◌, ◌<◌, ◌≤◌, not, List, Option, None, Some, Result, Ok, Err, IfOk, refl, ap, sym, ◌∙◌, length, arith}
+use Rattle.std.proofs.Common.{◌≡◌, ℕ, ◌+◌, ◌≤◌, not, List, Option, None, Some, Result, Ok, Err, IfOk, refl, ap, sym, ◌∙◌, length, arith}
 use Rattle.std.proofs.lemmas.Bool.{cond_both, eqb-false, not-true}
 use Rattle.std.proofs.Math.Nat.{mul-mod_left}
 use Rattle.std.specs.Result.{result_ok}
 use Rattle.hex.specs.Hex.{IsBytes, decode_sized}
 use Rattle.hex.proofs.HexLemmas.{decode_of-ok, decode_sized-ok, decode_sized-twice}
-use Rattle.epic_num.specs.Names.{as_of}
+use Rattle.epic_num.specs.Names.{IsReadable, as_of}
 use Rattle.toml.specs.Data.{Data, Members, no_members, as_integer, as_table}
 use Rattle.epic_num.specs.declared.name.AsId.{AsId}
 use Rattle.epic_topo.specs.Lawful.{IsEnd, IsNewLink, IsNewSystem, IsProfile}
@@ -17,7 +17,7 @@ use Rattle.epic_topo.specs.declared.fault.TopoKey.TheVariants as key
 use Rattle.epic_topo.specs.declared.fault.TopoKind.TheVariants.{Missing, WrongKind, BadProfile, BadAs, BadKey, DuplicateAs, UnknownAs, BadInterface}
 use Rattle.epic_topo.specs.declared.network.Link.{Link}
 use Rattle.epic_topo.specs.declared.network.System.{System}
-use Rattle.epic_topo.proofs.AsNames.{number_small}
+use Rattle.epic_topo.proofs.AsNames.{readable}
 use Rattle.epic_topo.proofs.Steps.{there, after, at_ok, if_passed, ranged}
 
 -- ---- the settings
@@ -64,12 +64,12 @@ profile_fits (Some d) = after (or_fails WrongKind key.Profile 0 (as_table d)) _ 
 
 -- ---- an AS
 
-asn_small : (k : TopoKey) (place : ℕ) (t : Members) → IfOk (asn_at k place t) (λ a. a.0 < 2 ^ 64)
+asn_named : (k : TopoKey) (place : ℕ) (t : Members) → IfOk (asn_at k place t) (λ a. IsReadable a.0)
 unfolding asn_at
-asn_small k place t =
+asn_named k place t =
     after (text_at k place t) _ _ (λ text _.
     after (or_fails BadAs k place (as_of text)) _ _ (λ number read.
-    number_small text number (there BadAs k place (as_of text) number read)))
+    readable text number (there BadAs k place (as_of text) number read)))
 
 -- a key that was taken is 16 bytes
 key_of : (digits bytes : List ℕ) → decode_sized digits 16 ≡ Ok bytes → (length bytes ≡ 16) × IsBytes bytes
@@ -95,11 +95,11 @@ next_system_fits n d =
     after (asn_at key.Name place t) _ _ (λ asn read_asn.
     after (core_at place t) _ _ (λ core _.
     after (master_at place t) _ _ (λ master read_master.
-    let number = at_ok (λ a. a.0 < 2 ^ 64) (asn_at key.Name place t) asn read_asn (asn_small key.Name place t) in
+    let named = at_ok (λ a. IsReadable a.0) (asn_at key.Name place t) asn read_asn (asn_named key.Name place t) in
     let bytes = at_ok (λ bytes. (length bytes ≡ 16) × IsBytes bytes) (master_at place t) master read_master (master_is place t) in
     let s : System = record { asn = asn; is_core = core; master = master } in
     cond_both (not (has n asn)) (Ok s) (fails DuplicateAs key.Name place) (λ r. IfOk r (IsNewSystem n))
-    (λ e. record { lawful = record { number = number; key = bytes.0; bytes = bytes.1 }; new = not-true (has n asn) e })
+    (λ e. record { lawful = record { named = named; key = bytes.0; bytes = bytes.1 }; new = not-true (has n asn) e })
     (λ _. tt)))))
 
 -- ---- a link

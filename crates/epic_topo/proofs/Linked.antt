@@ -2,9 +2,9 @@
 use Rattle.std.proofs.Common.{◌≡◌, ℕ, ◌<◌, ◌≤◌, Bool, true, false, not, ◌&&◌, ◌==◌, length, get_or, Option, Some, None, IfSome, is_some, option_map, slice_get, refl, ap, sym, subst, ◌∙◌, inl, inr, arith}
 use Rattle.std.proofs.lemmas.Bool.{and_parts, and_from, or_cases, or_left, or_right, cond_both, cond-true, cond-false, cases_order, eqb-true, eq-eqb, false≢true, false_from_ne_true, true_from_ne_false}
 use Rattle.std.proofs.lemmas.Option.{slice_get-get_or, slice_get_within, get_or_from_slice_get}
-use Rattle.epic_num.specs.Names.{isd_part}
+use Rattle.epic_num.specs.Names.{IsReadable, isd_part}
 use Rattle.epic_num.specs.declared.name.AsId.{AsId}
-use Rattle.epic_topo.specs.Lawful.{HasOnePlaceEach, IsLink, IsLinked, IsTopology, LinksLeadBack}
+use Rattle.epic_topo.specs.Lawful.{HasReadableNames, IsSystem, HasOnePlaceEach, IsLink, IsLinked, IsTopology, LinksLeadBack}
 use Rattle.epic_topo.specs.Network.{Network, same_as, same_isd, system_of, link_at, has, is_core, as_at, neighbour, turned, follows_core_rule, keeps_core_rule, is_end, ends_at, other_end}
 use Rattle.epic_topo.specs.declared.link_kind.LinkKind.{LinkKind}
 use Rattle.epic_topo.specs.declared.link_kind.LinkKind.TheVariants.{Core, Parent, Child}
@@ -162,3 +162,11 @@ one_place_each n t = record { place = place; known = known; once = once }
           | inr (inl before) ↦ absurd (apart i j s.0 r.0 s.1 r.1 (s.2 ∙ sym r.2) before)
           | inr (inr later) ↦ absurd (apart j i r.0 s.0 r.1 s.1 (r.2 ∙ sym s.2) later)
         ]
+
+pub names_readable : (n : Network) → IsTopology n → HasReadableNames n
+unfolding has
+names_readable n t asn h =
+    let s = some_of (system_of n asn) h in
+    let f = found (λ x. same_as x.asn asn) n.systems s.0 s.1 in
+    let is : IsSystem s.0 = subst IsSystem f.item (t.each_system f.index s.0 f.within) in
+    subst (λ (a : AsId). IsReadable a.0) (as_equal s.0.asn asn f.passes) is.named

@@ -1,6 +1,7 @@
 -- What every topology keeps that a text tells of.
-use Rattle.std.specs.Prelude.{◌≡◌, ◌≢◌, ℕ, ◌%◌, ◌^◌, ◌<◌, ◌≤◌, true, false, length, All, AllPairs, Some, IfSome}
+use Rattle.std.specs.Prelude.{◌≡◌, ◌≢◌, ℕ, ◌%◌, ◌<◌, ◌≤◌, true, false, length, All, AllPairs, Some, IfSome}
 use Rattle.hex.specs.Hex.{IsBytes}
+use Rattle.epic_num.specs.Names.{IsReadable}
 use Rattle.epic_num.specs.declared.name.AsId.{AsId}
 use Rattle.epic_num.specs.declared.profile.Profile.{Profile}
 use Rattle.epic_topo.specs.Network.{Network, has, as_at, neighbour, turned, is_taken, follows_core_rule, keeps_core_rule, ends_at}
@@ -20,9 +21,9 @@ pub record IsProfile (p : Profile) : Type 0 where
   pub some_window : 1 ≤ p.window
   pub window : p.window ≤ 65536
 
--- an AS's number is of 64 bits, and its key is 16 bytes
+-- an AS has a text, and its key is 16 bytes
 pub record IsSystem (s : System) : Type 0 where
-  pub number : s.asn.0 < 2 ^ 64
+  pub named : IsReadable s.asn.0
   pub key : length s.master ≡ 16
   pub bytes : IsBytes s.master
 
@@ -75,6 +76,10 @@ pub record IsLinked (n : Network) (asn : AsId) (iface : ℕ) (far : AsId × ℕ 
 -- each link leads back
 abbrev pub LinksLeadBack : Network → Type 0
 LinksLeadBack n = (asn : AsId) (iface : ℕ) → IfSome (neighbour n asn iface) (IsLinked n asn iface)
+
+-- each AS of the topology can be read from a text
+abbrev pub HasReadableNames : Network → Type 0
+HasReadableNames n = (asn : AsId) → has n asn ≡ true → IsReadable asn.0
 
 -- each AS of the topology has one place among at most 4,096
 pub record HasOnePlaceEach (n : Network) : Type 0 where

@@ -1,5 +1,5 @@
 ghost use Rattle.std.specs.Prelude.{ℕ, List, IfOk};
-ghost use Rattle.epic_topo.specs.Lawful.{HasOnePlaceEach, IsTopology, LinksLeadBack};
+ghost use Rattle.epic_topo.specs.Lawful.{HasOnePlaceEach, HasReadableNames, IsTopology, LinksLeadBack};
 ghost use Rattle.epic_topo.specs.Network.{Network};
 ghost use Rattle.epic_topo.specs.Reading.{topology};
 
@@ -16,4 +16,9 @@ pub fn links_lead_back()
 /// A law: in a lawful topology each AS has one place, and no place is above 4,095.
 pub fn each_as_has_one_place()
     ensures { (n : Network) → IsTopology n → HasOnePlaceEach n }
+{}
+
+/// A law: in a lawful topology each AS can be read from a text.
+pub fn ases_have_readable_names()
+    ensures { (n : Network) → IsTopology n → HasReadableNames n }
 {}

@@ -12,8 +12,11 @@ mod reading;
 mod tests;
 
 pub use fault::{TopoError, TopoKey, TopoKind};
-pub use laws::{each_as_has_one_place, links_lead_back, texts_tell_of_lawful_topologies};
+pub use laws::{
+    ases_have_readable_names, each_as_has_one_place, links_lead_back,
+    texts_tell_of_lawful_topologies,
+};
 pub use link_kind::LinkKind;
-pub use network::{End, Link, System};
+use network::{End, Link, System};
 pub use queries::Topology;
 pub use reading::read_topology;
