@@ -1,16 +1,14 @@
 -- A front of a numeral is a numeral, and a digit more makes one more.
-use Rattle.std.proofs.Common.{◌≡◌, ◌≢◌, ℕ, ◌+◌, ◌*◌, ◌<◌, ◌≤◌, Bool, true, false, ◌||◌, not, ◌==◌, if◌then◌else◌, List, [], ◌∷◌, ◌++◌, length, get_or, take, drop, Option, Some, None, refl, sym, ap, ◌∙◌, IsTrue, SomeIff, arith, rules, length-append}
+use Rattle.std.proofs.Common.{◌≡◌, ◌≢◌, ℕ, ◌+◌, ◌*◌, ◌<◌, ◌≤◌, Bool, true, false, ◌||◌, not, ◌==◌, if◌then◌else◌, List, [], ◌∷◌, ◌++◌, length, get_or, Option, Some, None, refl, sym, ap, ◌∙◌, IsTrue, SomeIff, arith, rules, length-append}
 use Rattle.std.specs.Char.{digit_value}
 use Rattle.std.specs.List.{list_all}
 use Rattle.std.specs.Str.Parse.{digits_value, digits_value_after}
 use Rattle.std.proofs.Math.Nat.{mul-le-mul_left}
 use Rattle.std.proofs.lemmas.Bool.{and_parts, and_from}
 use Rattle.std.proofs.lemmas.Int.Digits.{digits_value_push}
-use Rattle.std.proofs.lemmas.List.{take_more, take-append-drop}
 use Rattle.std.proofs.lemmas.List.Folds.{list_all-append}
 use Rattle.std.proofs.lemmas.Grind.{common_steps}
 use Rattle.epic_num.specs.Names.{Writes, is_digit_of, is_numeral, numeral_of, within}
-use Rattle.epic_num.specs.Spellings.{IsMisspelt}
 
 -- what it takes to be read as a number in these bounds
 pub record IsNumeralWithin (base least most : ℕ) (text : List ℕ) (n : ℕ) : Type 0 where
@@ -185,13 +183,3 @@ never_mended base least most front rest b b16 l some none =
     no_number n e =
         let read = reads_numeral base least most front (digits_value base front) (numeral_front base least most front rest n b b16 l some (numeral_is base least most (front ++ rest) n e)) in
         let clash : Some (digits_value base front) ≡ None = sym read ∙ none in cc
-
--- where a byte can't be added to a front, the text isn't read
-pub stopped : (base least most : ℕ) (text : List ℕ) (i : ℕ) → 1 ≤ base → base ≤ 16 → least ≤ 1 → i < length text → within least most (numeral_of base (take i text ++ (get_or text i 0 ∷ []))) ≡ None → IsMisspelt (λ t. within least most (numeral_of base t)) text i
-stopped base least most text i b b16 l in_text none = record {
-  unread = ap (λ t. within least most (numeral_of base t)) (sym whole) ∙ never_mended base least most (take i text ++ (get_or text i 0 ∷ [])) (drop (i + 1) text) b b16 l (omega (arith, length-append (take i text) (get_or text i 0 ∷ []))) none;
-  in_text = omega arith;
-}
-  where
-    whole : (take i text ++ (get_or text i 0 ∷ [])) ++ drop (i + 1) text ≡ text
-    whole = ap (λ t. t ++ drop (i + 1) text) (sym (take_more text i 0 in_text)) ∙ take-append-drop (i + 1) text

@@ -10,6 +10,7 @@ use Rattle.std.proofs.lemmas.Option.{none-some, same_Some}
 use Rattle.epic_num.specs.declared.name.HostId.{HostId}
 use Rattle.epic_num.specs.Names.{as_of, as_part_of, as_part_text, as_text, colon, comma, dash, group_of, groups_of, groups_text, hexadecimal, host_of, host_text, is_digit_of, isd_of, joined, low_groups_of, number_within, numeral_of, parted, small_part_of, within, IsReadable, IsReadableHost}
 use Rattle.epic_num.specs.Spellings.{HasOneSpelling}
+use Rattle.epic_num.proofs.Fronts.{HasText}
 use Rattle.epic_num.proofs.Numerals.{IsNumeralWithin, numeral_is, reads_numeral, unread}
 use Rattle.epic_num.proofs.Parts.{IsUnmarked, JoinsParts, has_parts_parted, joined_joins, parted_parts}
 use Rattle.epic_num.proofs.Spelled.{digits_are_numeral, numeral_is_digits}
@@ -134,7 +135,14 @@ restated f F G s t to from same h text a = (
   λ k. let v = from a k.0 in (h text a).1 (v, k.1 ∙ sym (same a v)),
 )
 
+-- a form that has a value has a text
+has_text : {A : Type 0} (f : List ℕ → Option A) (F : A → Type 0) (s : A → List ℕ) (a : A) → HasOneSpelling f F s → F a → HasText f
+has_text f F s a h ok = record { text = s a; value = a; read = (h (s a) a).1 (ok, refl) }
+
 -- the parts of an AS
+pub isd_unmarked : IsUnmarked dash isd_of
+isd_unmarked = numeral_unmarked 10 1 0xffff dash refl
+
 isd_spelling : HasOneSpelling isd_of (λ n. (1 ≤ n) × (n ≤ 0xffff)) decimal
 isd_spelling = numeral_spelling 10 1 0xffff (omega arith) (omega arith) (omega arith)
 
@@ -144,7 +152,10 @@ small_part_spelling = numeral_spelling 10 1 0xffff_ffff (omega arith) (omega ari
 group_spelling : (least : ℕ) → HasOneSpelling (group_of least) (λ n. (least ≤ n) × (n ≤ 0xffff)) hexadecimal
 group_spelling least = numeral_spelling 16 least 0xffff (omega arith) (omega arith) (omega arith)
 
-group_unmarked : (least mark : ℕ) → is_digit_of 16 mark ≡ false → IsUnmarked mark (group_of least)
+pub group_has_text : HasText (group_of 0)
+group_has_text = has_text (group_of 0) (λ n. (0 ≤ n) × (n ≤ 0xffff)) hexadecimal 0 (group_spelling 0) (omega arith, omega arith)
+
+pub group_unmarked : (least mark : ℕ) → is_digit_of 16 mark ≡ false → IsUnmarked mark (group_of least)
 group_unmarked least mark free = numeral_unmarked 16 least 0xffff mark free
 
 low_groups_spelling : HasOneSpelling low_groups_of (λ n. n < 2 ^ 32) (λ n. hexadecimal (n / 2 ^ 16) ++ (colon ∷ hexadecimal (n % 2 ^ 16)))
@@ -160,6 +171,10 @@ low_groups_spelling =
     (λ n h. refl)
     (joined_spelling colon (2 ^ 16) (group_of 0) (group_of 0) (λ n. (0 ≤ n) × (n ≤ 0xffff)) (λ n. (0 ≤ n) × (n ≤ 0xffff)) hexadecimal hexadecimal
     (group_unmarked 0 colon refl) (λ n h. omega arith) (group_spelling 0) (group_spelling 0))
+
+pub low_groups_has_text : HasText low_groups_of
+low_groups_has_text =
+    has_text low_groups_of (λ n. n < 2 ^ 32) (λ n. hexadecimal (n / 2 ^ 16) ++ (colon ∷ hexadecimal (n % 2 ^ 16))) 0 low_groups_spelling (omega arith)
 
 middle : (n : ℕ) → n % 2 ^ 32 / 2 ^ 16 ≡ n / 2 ^ 16 % 2 ^ 16
 middle n = omega arith
@@ -226,6 +241,9 @@ as_part_spelling text n = (there (small_part_of text) refl, λ k. back (nat_lt n
         ap (λ o. option_or o (groups_of text)) (ap small_part_of whole ∙ no_colon n)
         ∙ (groups_spelling text n).1 ((large, k.0.1), whole)
 
+pub as_part_has_text : HasText as_part_of
+as_part_has_text = has_text as_part_of (λ n. (0 < n) × (n < 2 ^ 48)) as_part_text 1 as_part_spelling (omega arith, omega arith)
+
 as_part_unmarked : (mark : ℕ) → is_digit_of 10 mark ≡ false → is_digit_of 16 mark ≡ false → (colon == mark) ≡ false → IsUnmarked mark as_part_of
 unfolding as_part_of groups_of low_groups_of
 as_part_unmarked mark d h c =
@@ -247,9 +265,9 @@ as_spelling =
     (λ a h. ((omega arith, omega arith), (omega arith, omega arith)))
     (λ a h. refl)
     (joined_spelling dash (2 ^ 48) isd_of as_part_of (λ n. (1 ≤ n) × (n ≤ 0xffff)) (λ n. (0 < n) × (n < 2 ^ 48)) decimal as_part_text
-    (numeral_unmarked 10 1 0xffff dash refl) (λ n h. h.1) isd_spelling as_part_spelling)
+    isd_unmarked (λ n h. h.1) isd_spelling as_part_spelling)
 
-as_unmarked : IsUnmarked comma as_of
+pub as_unmarked : IsUnmarked comma as_of
 unfolding as_of
 as_unmarked =
     map_unmarked comma (λ p. p.0 * 2 ^ 48 + p.1) (parted dash isd_of as_part_of)
@@ -261,6 +279,9 @@ number_spelling most small =
     restated (λ t. within 0 most (numeral_of 10 t)) (λ n. (0 ≤ n) × (n ≤ most)) (λ n. n ≤ most) decimal decimal
     (λ n h. h.1) (λ n h. (omega arith, h)) (λ n h. refl)
     (numeral_spelling 10 0 most (omega arith) (omega arith) (omega arith))
+
+pub number_has_text : (most : ℕ) → most < 2 ^ 64 → HasText (number_within most)
+number_has_text most small = has_text (number_within most) (λ n. n ≤ most) decimal 0 (number_spelling most small) (omega arith)
 
 pub host_spelling : HasOneSpelling host_of IsReadableHost host_text
 unfolding host_of host_text

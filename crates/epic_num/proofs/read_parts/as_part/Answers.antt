@@ -1,7 +1,7 @@
 use Rattle.std.proofs.Common.{ap, ◌∙◌}
 use Rattle.std.specs.Option.{option_or}
 use Rattle.epic_num.specs.Names.{as_part_of, groups_of, small_part_of}
-use Rattle.epic_num.proofs.Parts.{IsMisspelt-option_or}
+use Rattle.epic_num.proofs.Misspelt.{IsMisspelt-option_or}
 use Rattle.epic_num.proofs.read_parts.as_part.Goals as goal
 
 pub returns-in-Ok-default-clause-ok : goal.returns-in-Ok-default-clause-ok
