@@ -1,2 +1,12 @@
+pub mod BigEndian
+pub mod Bodies
+pub mod Chains
+pub mod Holders
+pub mod Levels
+pub mod Messages
+pub mod Moments
 pub mod Names
+pub mod Paths
+pub mod Same
+pub mod Segments
 pub mod Spellings
