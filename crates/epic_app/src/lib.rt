@@ -1,0 +1,5 @@
+//! The program's commands.
+#![tactic(auto)]
+
+pub mod lines;
+pub mod script;
