@@ -1,0 +1,10 @@
+pub mod BigEndian
+pub mod Bodies
+pub mod Chains
+pub mod Holders
+pub mod Levels
+pub mod Messages
+pub mod Moments
+pub mod Paths
+pub mod Same
+pub mod Segments
