@@ -1,2 +1,4 @@
+pub mod HopFile
 pub mod Lines
 pub mod Script
+pub mod Spelling

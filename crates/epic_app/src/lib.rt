@@ -1,5 +1,7 @@
 //! The program's commands.
 #![tactic(auto)]
 
+pub mod hop_file;
 pub mod lines;
 pub mod script;
+pub mod spelling;
