@@ -6,12 +6,17 @@ mod arrival;
 mod beacon_error;
 mod bytes;
 mod command;
+mod equality;
 mod hop;
 mod key_name;
 mod layout_error;
 mod memory;
+mod message;
+mod message_laws;
+mod moment;
 mod name;
 mod passed;
+mod path;
 mod path_error;
 mod path_ref;
 mod profile;
@@ -25,12 +30,20 @@ pub use arrival::{Arrival, DestCheck};
 pub use beacon_error::BeaconError;
 pub use bytes::Bytes;
 pub use command::Command;
+pub use equality::{same_body, same_field, same_holder, same_host, same_key, same_name};
 pub use hop::{Body, Field, HopName, Level};
 pub use key_name::{Holder, KeyName};
 pub use layout_error::LayoutError;
 pub use memory::OutOfMemory;
+pub use message::{
+    as_key_message, authenticator_message, dest_key_message, field1_message, field23_message,
+    forwarding_message, host_key_message, link_message, secret_message,
+};
+pub use message_laws::{field_messages, hop_messages, message_kinds};
+pub use moment::{MAX_MOMENT, is_expired, valid_until};
 pub use name::{AsId, HostId};
 pub use passed::{PassResult, Passed, PassedList, Place};
+pub use path::Path;
 pub use path_error::PathError;
 pub use path_ref::{PathList, PathRef};
 pub use profile::Profile;

@@ -1,0 +1,4 @@
+pub mod MessageLaws
+pub mod MomentLaws
+pub mod Reading
+pub mod SameLaws
