@@ -1,3 +1,6 @@
+pub mod FaultCounts
 pub mod Faults
 pub mod Files
+pub mod MemSink
+pub mod MemStore
 pub mod Written

@@ -1,4 +1,4 @@
-ghost use Rattle.std.specs.Prelude.{◌≡◌, ◌^◌, ◌≤◌, vec_len, IfOk, OnOk, OnErr};
+ghost use Rattle.std.specs.Prelude.{◌≡◌, ◌^◌, ◌≤◌, [], vec_len, IsOk, IfOk, OnOk, OnErr};
 ghost use Rattle.epic_ports.specs.Faults.{CountsOnly, FailsOnlyBy, ReadFailsBy};
 ghost use Rattle.epic_ports.specs.Files.{KeepsFiles, ReadsFile};
 ghost use Rattle.epic_ports.specs.Written.{Appends, AppendsFront};
@@ -56,6 +56,7 @@ pub fn read_whole<S: Store>(
 pub fn write_all<O: Sink>(sink: &mut O, bytes: &[u8]) -> Result<(), PortError>
     ensures ok { OnOk result (Appends (O.written sink.old) (O.written sink.new) bytes.now) }
     ensures err { OnErr result (AppendsFront (O.written sink.old) (O.written sink.new) bytes.now) }
+    ensures none { bytes.now ≡ [] → IsOk result × (sink.new ≡ sink.old) }
     ensures later { O.faults sink.old ≤ O.faults sink.new }
     ensures cause { FailsOnlyBy (O.faults sink.old) (O.faults sink.new) result }
 {
