@@ -19,7 +19,7 @@ parts_some text i found =
     let e = position_or_len_is is_line_feed text i 0 within f.2 (λ _. f.1) in
     let before : position_or_len is_line_feed text < length text = omega (arith, f.0, e) in
     let split : slice_split is_line_feed text ≡ take i text ∷ slice_split is_line_feed (drop (i + 1) text) =
-        subst (λ k. slice_split is_line_feed text ≡ take k text ∷ slice_split is_line_feed (drop (k + 1) text)) e (slice_split_first is_line_feed text 0 before) in
+    subst (λ k. slice_split is_line_feed text ≡ take k text ∷ slice_split is_line_feed (drop (k + 1) text)) e (slice_split_first is_line_feed text 0 before) in
     let more : 0 < length (slice_split is_line_feed (drop (i + 1) text)) = omega (arith, length-slice_split is_line_feed (drop (i + 1) text)) in
     ap without_empty_last split ∙ without_empty_last-cons (take i text) (slice_split is_line_feed (drop (i + 1) text)) more
 

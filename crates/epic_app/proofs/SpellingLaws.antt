@@ -7,11 +7,6 @@ use Rattle.epic_num.specs.BigEndian.{u16_bytes, u32_bytes}
 use Rattle.epic_num.specs.Bodies.{body_bytes}
 use Rattle.epic_app.specs.Spelling.{body_of}
 
-pub list_of_eight : (xs : List ℕ) → length xs ≡ 8 →
-    get_or xs 0 0 ∷ get_or xs 1 0 ∷ get_or xs 2 0 ∷ get_or xs 3 0 ∷ get_or xs 4 0 ∷ get_or xs 5 0 ∷ get_or xs 6 0 ∷ get_or xs 7 0 ∷ [] ≡ xs
-list_of_eight (a ∷ b ∷ c ∷ d ∷ e ∷ f ∷ g ∷ h ∷ []) eight = refl
-list_of_eight _ eight = absurd (omega (arith, eight))
-
 -- the parts, byte by byte
 abbrev body_by_reads : List ℕ → Body
 body_by_reads bs = record {

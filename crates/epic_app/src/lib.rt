@@ -1,7 +1,10 @@
 //! The program's commands.
 #![tactic(auto)]
 
+pub mod hop_answer;
 pub mod hop_file;
+pub mod hop_report;
 pub mod lines;
 pub mod script;
 pub mod spelling;
+pub mod tags;

@@ -22,9 +22,7 @@ pub enum ScriptKind {
     /// The command has another number of words.
     WordCount,
     /// The first word that isn't of its form; the verb is word 1.
-    BadWord {
-        word: u32,
-    },
+    BadWord { word: u32 },
     /// A command after the greatest number of them.
     TooMany,
 }
@@ -33,10 +31,7 @@ pub enum ScriptKind {
 #[derive(Clone, Copy, Debug, PartialEq, Eq)]
 pub enum ScriptError {
     /// The first line that is refused, counted from 1, and why.
-    Bad {
-        line: u32,
-        kind: ScriptKind,
-    },
+    Bad { line: u32, kind: ScriptKind },
     OutOfMemory,
 }
 
