@@ -1,5 +1,5 @@
 -- Each answer of `hop` holds.
-use Rattle.std.proofs.Common.{◌≡◌, ◌≢◌, ℕ, ◌+◌, ◌<◌, ◌≤◌, Bool, true, false, cond, ltb, Option, Some, None, List, [], ◌∷◌, ◌++◌, length, get_or, Contains, bytes_eq, refl, sym, ap, ◌∙◌, arith}
+use Rattle.std.proofs.Common.{◌≡◌, ℕ, ◌≤◌, Bool, true, false, cond, ltb, Option, Some, None, List, [], ◌∷◌, ◌++◌, length, get_or, Contains, bytes_eq, refl, ap, ◌∙◌, arith}
 use Rattle.std.specs.List.{slice_get, position, position_or_len}
 use Rattle.std.proofs.lemmas.Bool.Decides.{nat_tests}
 use Rattle.std.proofs.lemmas.List.Quantifiers.{position-Some}
@@ -7,13 +7,11 @@ use Rattle.std.proofs.lemmas.List.Sums.{fails_before_first}
 use Rattle.std.proofs.lemmas.Option.{slice_get-get_or}
 use Rattle.std.proofs.lemmas.Slice.Eq.{bytes_eq-Decides}
 use Rattle.epic_num.specs.declared.hop.Body.{Body}
-use Rattle.epic_num.specs.Same.{same_body}
 use Rattle.epic_num.proofs.SameLaws.{same_body-Decides}
 use Rattle.epic_app.specs.declared.hop_file.HopCommand.{HopCommand}
 use Rattle.epic_app.specs.declared.hop_file.HopCommand.TheVariants.{Issue, Check}
-use Rattle.epic_app.specs.declared.hop_answer.HopAnswer.{HopAnswer}
-use Rattle.epic_app.specs.declared.hop_answer.HopAnswer.TheVariants.{Issued, Refused, Proved, Forged}
-use Rattle.epic_app.specs.Tags.{sigma, link_tag, field0}
+use Rattle.epic_app.specs.declared.hop_answer.HopAnswer.TheVariants.{Refused}
+use Rattle.epic_app.specs.Tags.{sigma, field0}
 use Rattle.epic_app.specs.HopReport.{is_issue_of, accepted, answer_of, answers_after, Holds, AllHold}
 
 past_none : (k n : ℕ) → cond (ltb k n) (Some k) None ≡ None → n ≤ k

@@ -51,7 +51,7 @@ pub count_step : (p : HopAnswer → Bool) (all rest more : List HopAnswer) (answ
     count_by p all ≡ n + count_by p rest → rest ≡ answer ∷ more → hit ≡ p answer → n' ≡ n + cond hit 1 0 → count_by p all ≡ n' + count_by p more
 count_step p all rest more answer n n' hit counts step is next =
     let first : count_by p rest ≡ cond hit 1 0 + count_by p more =
-        ap (count_by p) step ∙ sum_by-cons (λ x. cond (p x) 1 0) answer more ∙ ap (λ (b : Bool). cond b 1 0 + count_by p more) (sym is) in
+    ap (count_by p) step ∙ sum_by-cons (λ x. cond (p x) 1 0) answer more ∙ ap (λ (b : Bool). cond b 1 0 + count_by p more) (sym is) in
     omega (arith, counts, first, next)
 
 -- nothing is left to count

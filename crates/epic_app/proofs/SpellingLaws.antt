@@ -1,6 +1,6 @@
 -- A body and its 18 bytes.
-use Rattle.std.proofs.Common.{◌≡◌, ℕ, zero, suc, ◌<◌, List, [], ◌∷◌, ◌++◌, length, get_or, refl, ap, sym, ◌∙◌, arith}
-use Rattle.std.specs.Int.{w16, w32, from_be_bytes, to_be_bytes}
+use Rattle.std.proofs.Common.{◌≡◌, ℕ, zero, suc, ◌<◌, List, [], ◌∷◌, ◌++◌, length, get_or, refl, arith}
+use Rattle.std.specs.Int.{w16, w32, from_be_bytes}
 use Rattle.std.proofs.lemmas.Nat.{be_bytes_2, be_bytes_4}
 use Rattle.epic_num.specs.declared.hop.Body.{Body}
 use Rattle.epic_num.specs.BigEndian.{u16_bytes, u32_bytes}

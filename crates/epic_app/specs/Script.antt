@@ -42,20 +42,24 @@ abbrev pub numbered : {C : Type 0} → Rule C → ℕ → List (List ℕ) → Li
 numbered rule number [] = []
 numbered rule number (line ∷ more) = at_line number (line_command rule line) (numbered rule (number + 1) more)
 
+-- a line, and why it is refused
+abbrev pub Fault : Type 0
+Fault = ℕ × ScriptKind
+
 -- the commands, after others that came before
-abbrev pub with_front : {C : Type 0} → List C → Result (List C) ScriptError → Result (List C) ScriptError
+abbrev pub with_front : {C : Type 0} → List C → Result (List C) Fault → Result (List C) Fault
 with_front front (Ok commands) = Ok (front ++ commands)
-with_front front (Err error) = Err error
+with_front front (Err fault) = Err fault
 
 -- the commands in order, or the first fault; a command after the greatest number of commands is one, too
-abbrev pub commands_after : {C : Type 0} → ℕ → List (ℕ × Result C ScriptKind) → Result (List C) ScriptError
+abbrev pub commands_after : {C : Type 0} → ℕ → List (ℕ × Result C ScriptKind) → Result (List C) Fault
 commands_after count [] = Ok []
-commands_after count ((line, Err kind) ∷ more) = Err (script_error.Bad line kind)
+commands_after count ((line, Err kind) ∷ more) = Err (line, kind)
 commands_after count ((line, Ok command) ∷ more) =
-    if nat_lt count MAX_COMMANDS then with_front (command ∷ []) (commands_after (count + 1) more) else Err (script_error.Bad line TooMany)
+    if nat_lt count MAX_COMMANDS then with_front (command ∷ []) (commands_after (count + 1) more) else Err (line, TooMany)
 
 -- the commands of a text, or its first fault. Lines count from 1.
-abbrev pub commands_of : {C : Type 0} → Rule C → List ℕ → Result (List C) ScriptError
+abbrev pub commands_of : {C : Type 0} → Rule C → List ℕ → Result (List C) Fault
 commands_of rule text = commands_after 0 (numbered rule 1 (lines text))
 
 -- an answer by a rule, but for memory
@@ -65,7 +69,7 @@ IsByRule told (Err (words_error.Refused kind)) = told ≡ Err kind
 IsByRule told (Err words_error.OutOfMemory) = ⊤
 
 -- the commands of a text or its fault, but for memory
-abbrev pub IsScript : {C : Type 0} → Result (List C) ScriptError → Result (Vec C) ScriptError → Type 0
+abbrev pub IsScript : {C : Type 0} → Result (List C) Fault → Result (Vec C) ScriptError → Type 0
 IsScript told (Ok commands) = told ≡ Ok commands.items
-IsScript told (Err (script_error.Bad line kind)) = told ≡ Err (script_error.Bad line kind)
+IsScript told (Err (script_error.Bad line kind)) = told ≡ Err (line, kind)
 IsScript told (Err script_error.OutOfMemory) = ⊤

@@ -1,6 +1,8 @@
 //! The program's commands.
 #![tactic(auto)]
 
+pub mod end;
+pub mod hop;
 pub mod hop_answer;
 pub mod hop_file;
 pub mod hop_report;
@@ -8,3 +10,5 @@ pub mod lines;
 pub mod script;
 pub mod spelling;
 pub mod tags;
+pub mod top;
+pub mod words;

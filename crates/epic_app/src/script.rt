@@ -1,6 +1,6 @@
 //! The commands of a script: one a line, but for comments and lines without words.
 
-ghost use Rattle.std.specs.Prelude.{◌≡◌, ◌^◌, ◌<◌, ℕ, length, map, List, Option, Result};
+ghost use Rattle.std.specs.Prelude.{◌≡◌, ◌^◌, ◌<◌, ◌≤◌, ℕ, length, map, vec_len, List, Option, Result, IfOk};
 ghost use Rattle.epic_app.specs.Script.{IsByRule, IsScript, line_command, commands_of};
 ghost use Rattle.epic_app.specs.declared.script.ScriptKind.{ScriptKind};
 ghost use Rattle.epic_app.specs.declared.script.ScriptError.TheVariants as script_error;
@@ -94,7 +94,8 @@ fn read_line<C: FromWords>(alloc: Global, line: &[u8]) -> Result<Option<C>, Word
 /// `ScriptError::Bad` tells the first line that is refused.
 pub fn read_script<C: FromWords>(alloc: Global, text: &[u8]) -> Result<Vec<C>, ScriptError>
     requires { length text.now < 2 ^ 32 }
-    ensures { IsScript (commands_of C.rule text.now) result }
+    ensures value { IsScript (commands_of C.rule text.now) result }
+    ensures few { IfOk result (λ commands. vec_len commands ≤ MAX_COMMANDS) }
 {
     let mut commands = Vec::new(alloc);
     let mut rest = text;

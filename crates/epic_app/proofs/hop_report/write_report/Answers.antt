@@ -1,8 +1,8 @@
-use Rattle.std.proofs.Common.{◌≡◌, ◌+◌, ◌≤◌, ℕ, List, ◌++◌, length, ap, sym, subst, ◌∙◌, arith}
+use Rattle.std.proofs.Common.{◌+◌, ℕ, List, ◌++◌, ap, subst, ◌∙◌, arith}
 use Rattle.epic_ports.specs.Written.{Appends, AppendsFront}
 use Rattle.epic_ports.proofs.Appended.{on_err}
-use Rattle.epic_app.specs.HopReport.{answers, end_text, is_accept, is_forged, lines_text}
-use Rattle.epic_app.proofs.HopReportLemmas.{rest_of, rest_step, rest_end, front_in_line, line_after, front_in_end, end_after, length-answers_after, count_step, count_end, end_same}
+use Rattle.epic_app.specs.HopReport.{answers, is_accept, is_forged, lines_text}
+use Rattle.epic_app.proofs.HopReportLemmas.{rest_step, rest_end, front_in_line, line_after, front_in_end, end_after, count_step, end_same}
 use Rattle.epic_app.proofs.hop_report.write_report.Goals as goal
 
 pub returns-in_err-write_line-clause-err : goal.returns-in_err-write_line-clause-err

@@ -1,4 +1,4 @@
-use Rattle.std.proofs.Common.{◌≡◌, ◌+◌, ◌<◌, ◌≤◌, length, vec_len, Some, Ok, ap, ◌∙◌, arith, rules, length-append, ◌++◌, ◌∷◌, []}
+use Rattle.std.proofs.Common.{◌≡◌, ◌+◌, ◌<◌, length, Some, Ok, ap, ◌∙◌, arith, rules, length-append, ◌++◌, ◌∷◌, []}
 use Rattle.epic_app.specs.Script.{commands_after, with_front, line_command}
 use Rattle.epic_app.specs.declared.script.TheConstants.{MAX_COMMANDS}
 use Rattle.epic_app.proofs.Commands.{one_more, at_first}

@@ -1,4 +1,4 @@
-use Rattle.std.proofs.Common.{◌≡◌, ◌<◌, ℕ, length, ◌+◌, ◌≤◌}
+use Rattle.std.proofs.Common.{◌≡◌, length, ◌+◌, ◌≤◌}
 use Rattle.epic_app.specs.Lines.{lines}
 use Rattle.epic_app.specs.Script.{commands_of, commands_after, numbered, with_front}
 use Rattle.epic_app.specs.declared.script.TheConstants.{MAX_COMMANDS}
