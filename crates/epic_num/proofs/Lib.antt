@@ -1,4 +1,14 @@
+pub mod ChainLaws
+pub mod LevelLaws
 pub mod MessageLaws
 pub mod MomentLaws
+pub mod Numerals
+pub mod OneSpelling
+pub mod Parts
+pub mod PathLaws
 pub mod Reading
 pub mod SameLaws
+pub mod Spelled
+pub mod Fronts
+pub mod Misspelt
+pub mod Stopped

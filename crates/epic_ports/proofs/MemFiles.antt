@@ -1,5 +1,5 @@
 -- Files in memory, of which the first of a name counts.
-use Rattle.std.proofs.Common.{◌≡◌, ◌≢◌, ◌<◌, ◌≤◌, ℕ, suc, Bool, true, false, List, [], ◌∷◌, ◌++◌, length, get_or, set, map, Option, Some, None, string_bytes, bytes_eq, Contains, refl, sym, ◌∙◌, ap, inl, inr, arith}
+use Rattle.std.proofs.Common.{◌≡◌, ◌≢◌, ◌<◌, ◌≤◌, ℕ, Bool, true, false, List, [], ◌∷◌, ◌++◌, length, get_or, set, Option, Some, None, string_bytes, bytes_eq, refl, sym, ◌∙◌, ap, inl, inr, arith}
 use Rattle.std.proofs.lemmas.Bool.{false_from_ne_true}
 use Rattle.std.proofs.lemmas.Bool.Decides.{nat_tests}
 use Rattle.std.proofs.lemmas.List.Folds.{find_at, find_past, find-append, find-set}
@@ -9,8 +9,8 @@ use Rattle.std.proofs.lemmas.Option.{none-some, slice_get-get_or, slice_get_case
 use Rattle.std.proofs.lemmas.Slice.Eq.{bytes_eq-Decides}
 use Rattle.std.specs.List.{find, position, position_or_len, slice_get}
 use Rattle.std.specs.Option.{option_or}
-use Rattle.epic_ports.specs.Files.{Files, IsFinite, Replaces}
-use Rattle.epic_ports.specs.MemStore.{File, bytes_in, files_in, is_named}
+use Rattle.epic_ports.specs.Files.{Files, Replaces}
+use Rattle.epic_ports.specs.MemFiles.{File, bytes_in, files_in, is_named}
 
 named : (a b : List ℕ) → bytes_eq a b ≡ true → a ≡ b
 named a b same = (bytes_eq-Decides a b).0 same
@@ -37,16 +37,6 @@ or_none (Some file) = refl
 
 slice_get_past : (files : List File) (i : ℕ) → length files ≤ i → slice_get files i ≡ None
 slice_get_past files i past = elim (slice_get_cases files i).1 [ inl found ↦ absurd (omega arith) | inr end ↦ end.1 ]
-
-among : (files : List File) (q : List ℕ) → files_in files q ≢ None → Contains (map (λ file. string_bytes file.0) files) q
-among [] q some = absurd (some refl)
-among (file ∷ files) q some =
-    by_name (string_bytes file.0) q
-    (λ same. (0, omega arith, same))
-    (λ other.
-    let differs : bytes_eq (string_bytes file.0) q ≡ false = unnamed (string_bytes file.0) q other in
-    let later = among files q (rw differs at some) in
-    (suc later.0, omega (arith, later.1), later.2))
 
 -- what stands at the place that was found
 pub record StandsAt (files : List File) (name : List ℕ) (i : ℕ) (file : File) : Type 0 where
@@ -109,7 +99,3 @@ push_file files name new missing same =
           let differs : is_named q new ≡ false = unnamed (string_bytes new.0) q (λ e. other (sym e ∙ same)) in
           rw (find-append (is_named q) files (new ∷ []), differs, or_none) refl,
     )
-
--- the names of files are those of a list
-pub finite_files : (files : List File) → IsFinite (Some (files_in files))
-finite_files files = (map (λ file. string_bytes file.0) files, among files)

@@ -1,6 +1,7 @@
 -- What a store holds, and what its calls do to it. Where a store doesn't tell its contents, nothing is claimed of them.
-use Rattle.std.specs.Prelude.{◌≡◌, ◌≢◌, ℕ, ◌+◌, ◌<◌, ◌≤◌, List, [], ◌∷◌, ◌++◌, length, take, drop, Contains, Option, Some, None, Result, Ok, Err, ⊤}
+use Rattle.std.specs.Prelude.{◌≡◌, ◌≢◌, ℕ, ◌+◌, ◌<◌, ◌≤◌, List, [], ◌∷◌, ◌++◌, length, take, drop, true, bytes_eq, Option, Some, None, Result, Ok, Err, ⊤}
 use Rattle.std.specs.Global.{Vec}
+use Rattle.std.specs.List.{list_any}
 use Rattle.epic_ports.specs.declared.error.ReadError.{ReadError}
 use Rattle.epic_ports.specs.declared.error.ReadError.TheVariants.{Failed, TooLong, OutOfMemory}
 
@@ -8,10 +9,10 @@ use Rattle.epic_ports.specs.declared.error.ReadError.TheVariants.{Failed, TooLon
 abbrev pub Files : Type 0
 Files = List ℕ → Option (List ℕ)
 
--- the names that are there are those of a list
+-- each name that is there is among those of a list
 abbrev pub IsFinite : Option Files → Type 0
 IsFinite None = ⊤
-IsFinite (Some files) = (names : List (List ℕ)) × ((q : List ℕ) → files q ≢ None → Contains names q)
+IsFinite (Some files) = (names : List (List ℕ)) × ((q : List ℕ) → files q ≢ None → list_any (λ name. bytes_eq name q) names ≡ true)
 
 -- the told contents stay as they were
 abbrev pub KeepsFiles : Option Files → Option Files → Type 0

@@ -1,30 +1,36 @@
 -- What a store in memory holds and answers.
-use Rattle.std.specs.Prelude.{◌≡◌, ℕ, Bool, true, false, ◌&&◌, List, [], ◌∷◌, Option, Some, None, is_none, Result, Ok, Err, String, string_bytes, bytes_eq, find, ⊤}
-use Rattle.std.specs.Global.{Vec, Global}
+use Rattle.std.specs.Prelude.{◌≡◌, ℕ, Bool, true, false, List, Result, Ok, Err, ⊤}
 use Rattle.epic_ports.specs.declared.error.PortError.{PortError}
 use Rattle.epic_ports.specs.declared.error.PortError.TheVariants.{Failed, OutOfMemory}
-use Rattle.epic_ports.specs.Faults.{CountsFault, next_count}
+use Rattle.epic_ports.specs.declared.mem_store.MemStore.{MemStore}
+use Rattle.epic_ports.specs.FaultCounts as fault_counts
+use Rattle.epic_ports.specs.Faults.{CountsFault, is_listed, next_count}
 use Rattle.epic_ports.specs.Files.{Files}
+use Rattle.epic_ports.specs.MemFiles.{File, files_in}
 
--- a file in memory: its name and its bytes
-abbrev pub File : Type 0
-File = String Global × Vec ℕ
+-- the bytes of each name that is there
+abbrev pub contents_of : MemStore → Files
+contents_of store = files_in store.files.items
 
-abbrev pub is_named : List ℕ → File → Bool
-is_named name file = bytes_eq (string_bytes file.0) name
+-- how many reads of a name failed
+abbrev pub reads_of : MemStore → List ℕ → ℕ
+reads_of store = fault_counts.reads_of store.counts
 
-abbrev pub bytes_in : Option File → Option (List ℕ)
-bytes_in None = None
-bytes_in (Some file) = Some file.1.items
+-- how many writes of a name failed
+abbrev pub writes_of : MemStore → List ℕ → ℕ
+writes_of store = fault_counts.writes_of store.counts
 
--- the bytes of the first file of a name
-abbrev pub files_in : List File → Files
-files_in files = λ name. bytes_in (find (is_named name) files)
+-- the next call is one of those that fail
+abbrev pub is_next_listed : MemStore → Bool
+is_next_listed store = is_listed store.fail.items (next_count store.calls)
 
--- no two files have one name
-abbrev pub names_differ : List File → Bool
-names_differ [] = true
-names_differ (file ∷ files) = is_none (files_in files (string_bytes file.0)) && names_differ files
+-- a new store of these files: nothing was called yet
+pub record HoldsNew (store : MemStore) (files : List File) (numbers : List ℕ) : Type 0 where
+  pub contents : contents_of store ≡ files_in files
+  pub reads : (q : List ℕ) → reads_of store q ≡ 0
+  pub writes : (q : List ℕ) → writes_of store q ≡ 0
+  pub fail : store.fail.items ≡ numbers
+  pub calls : store.calls ≡ 0
 
 -- a call fails exactly where it has this cause, but for want of memory
 abbrev pub FailsWhere : {X : Type 0} → Bool → Result X PortError → Type 0
@@ -43,3 +49,8 @@ abbrev pub CountsWhere : {X : Type 0} → List ℕ → (List ℕ → ℕ) → (L
 CountsWhere name old new (Ok x) = new ≡ old
 CountsWhere name old new (Err Failed) = CountsFault name old new
 CountsWhere name old new (Err OutOfMemory) = new ≡ old
+
+-- the call was counted, and the list of those that fail stays
+pub record CountsCall {X : Type 0} (old new : MemStore) (result : Result X PortError) : Type 0 where
+  pub calls : new.calls ≡ calls_after old.calls result
+  pub fail : new.fail.items ≡ old.fail.items

@@ -18,12 +18,12 @@ pub struct DiskStore<'a, R> {
 
 impl<'a, R: Files + AllocGlobal> DiskStore<'a, R> {
     ghost use Rattle.std.specs.Prelude.{◌≡◌, ℕ, List};
-    ghost use Rattle.epic_ports.specs.FaultCounts.{reads_of, writes_of};
+    ghost use Rattle.epic_ports.specs.DiskStore.{reads_of, writes_of};
 
     /// The files that `rt` reaches, with no fault yet.
     pub fn new(rt: &'a R) -> DiskStore<'a, R>
-        ensures reads { (q : List ℕ) → reads_of result.counts q ≡ 0 }
-        ensures writes { (q : List ℕ) → writes_of result.counts q ≡ 0 }
+        ensures reads { (q : List ℕ) → reads_of result q ≡ 0 }
+        ensures writes { (q : List ℕ) → writes_of result q ≡ 0 }
     {
         DiskStore {
             rt,
@@ -34,13 +34,13 @@ impl<'a, R: Files + AllocGlobal> DiskStore<'a, R> {
 
 impl<'a, R: Files + AllocGlobal> Store for DiskStore<'a, R> {
     ghost use Rattle.std.specs.Prelude.{None};
-    ghost use Rattle.epic_ports.specs.FaultCounts.{reads_of, writes_of};
+    ghost use Rattle.epic_ports.specs.DiskStore.{reads_of, writes_of};
 
     ghost contents = { λ _. None };
 
-    ghost reads = { λ store. reads_of store.counts };
+    ghost reads = { reads_of };
 
-    ghost writes = { λ store. writes_of store.counts };
+    ghost writes = { writes_of };
 
     fn read_at(&mut self, name: &str, at: u64, buf: &mut [u8]) -> Result<usize, PortError> {
         self.counts.make_room(name)?;

@@ -1,7 +1,7 @@
 //! Files in memory: a name and its bytes, of which the first of a name counts.
 ghost use Rattle.std.specs.Prelude.{◌≡◌, ◌≤◌, ◌++◌, [], length, IfSome, IfNone, OnOk, OnErr, Some, None, option_copied, position};
 ghost use Rattle.epic_ports.specs.Files.{GivesPiece, ReadsPiece, Replaces, bytes_at};
-ghost use Rattle.epic_ports.specs.MemStore.{files_in, is_named, names_differ};
+ghost use Rattle.epic_ports.specs.MemFiles.{files_in, is_named, names_differ};
 
 use std::alloc::AllocError;
 

@@ -1,5 +1,5 @@
 use Rattle.std.proofs.Common.{◌≡◌, length}
-use Rattle.epic_ports.specs.MemStore.{names_differ}
+use Rattle.epic_ports.specs.MemFiles.{names_differ}
 use Rattle.epic_ports.proofs.mem_file.all_differ.Given as goal
 
 abbrev pub invariant-loop-first : goal.invariant-loop-first
