@@ -10,5 +10,7 @@ pub mod lines;
 pub mod script;
 pub mod spelling;
 pub mod tags;
-pub mod top;
+mod top;
 pub mod words;
+
+pub use top::epic;
