@@ -14,3 +14,6 @@ mod top;
 pub mod words;
 
 pub use top::epic;
+
+#[cfg(test)]
+mod tests;
