@@ -1,7 +1,9 @@
 pub mod ChainLaws
 mod Examples
+pub mod Fronts
 pub mod LevelLaws
 pub mod MessageLaws
+pub mod Misspelt
 pub mod MomentLaws
 pub mod Numerals
 pub mod OneSpelling
@@ -9,11 +11,5 @@ pub mod Parts
 pub mod PathLaws
 pub mod Reading
 pub mod SameLaws
-pub mod Spelled
-pub mod Fronts
-pub mod Misspelt
-pub mod Numerals
-pub mod OneSpelling
-pub mod Parts
 pub mod Spelled
 pub mod Stopped
