@@ -1,0 +1,9 @@
+//! Keys by their names, and the keys of other ASes that an AS has fetched.
+#![tactic(auto)]
+
+mod derivation;
+mod key_store;
+
+pub use derivation::{derive, is_holder};
+pub use epic_num::NoKey;
+pub use key_store::{Fetched, KeyStore};
