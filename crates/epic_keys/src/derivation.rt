@@ -12,6 +12,18 @@ use epic_num::{
 };
 use epic_topo::Topology;
 
+/// The AS from whose master key the key of the name is derived.
+#[tactic(auto, unfolding(crate::specs::Keys::owner))]
+pub fn owner(name: &KeyName) -> AsId
+    ensures { result ≡ owner name.now }
+{
+    match *name {
+        KeyName::Fwd { a, .. } => a,
+        KeyName::Field { a, .. } => a,
+        KeyName::Dest { dst, .. } => dst.asn,
+    }
+}
+
 /// The key, of 16 bytes, of a name whose owner is in the topology.
 #[tactic(auto, unfolding(crate::specs::Keys::key, crate::specs::Keys::owner))]
 pub fn derive(topo: &Topology, name: &KeyName) -> [u8; 16]

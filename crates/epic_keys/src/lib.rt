@@ -3,7 +3,9 @@
 
 mod derivation;
 mod key_store;
+#[cfg(test)]
+mod tests;
 
-pub use derivation::{derive, is_holder};
+pub use derivation::{derive, is_holder, owner};
 pub use epic_num::NoKey;
 pub use key_store::{Fetched, KeyStore};
