@@ -3,6 +3,7 @@ use Rattle.std.proofs.Common.{◌≡◌, ℕ, ◌+◌, ◌*◌, List, length, ap
 use Rattle.std.proofs.lemmas.List.{length-drop}
 use Rattle.std.proofs.lemmas.List.FromFn.{length-map-range_with_len}
 use Rattle.epic_num.specs.Levels.{version_of, width_of, level_of}
+use Rattle.epic_layout.specs.declared.shape.Shape.{Shape}
 use Rattle.epic_layout.specs.Pieces.{byte}
 use Rattle.epic_layout.specs.Contents.{hop_count, header_len, shape, segment_offset, dest_len}
 use Rattle.epic_layout.specs.Layout.{parse, route_in, segments_in, segment_at, hops_in, hop_at, header_len_in, hop_offset}
@@ -26,3 +27,7 @@ payload_parse b n h = length-drop (header_len_in b) b ∙ omega arith
 pub shape_parse : (b : List ℕ) (n : ℕ) → header_len_in b + n ≡ length b → shape (parse b) ≡ record { version = version_of (byte b 0); level = level_of (byte b 0); segments = byte b 6; hops = hops_in b; header = header_len_in b; payload = n }
 unfolding shape parse
 shape_parse b n h = λ i. record { version = version_of (byte b 0); level = level_of (byte b 0); segments = segments_parse b i; hops = hop_count_parse b i; header = header_len_parse b i; payload = payload_parse b n h i }
+
+pub shape_sizes : (b : List ℕ) (s : Shape) → s ≡ shape (parse b) → (s.segments ≡ byte b 6) × (s.hops ≡ hops_in b) × (s.header ≡ header_len_in b)
+unfolding shape
+shape_sizes b s e = (ap (λ t. t.segments) e ∙ segments_parse b, ap (λ t. t.hops) e ∙ hop_count_parse b, ap (λ t. t.header) e ∙ header_len_parse b)

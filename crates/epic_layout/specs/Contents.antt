@@ -1,6 +1,7 @@
 -- What a packet says, apart from how its bytes spell it.
-use Rattle.std.specs.Prelude.{◌≡◌, ℕ, ◌+◌, ◌*◌, ◌<◌, ◌≤◌, ◌^◌, true, false, List, [], length, replicate, slice_index_or, slice_set, if◌then◌else◌}
+use Rattle.std.specs.Prelude.{◌≡◌, ℕ, ◌+◌, ◌-◌, ◌*◌, ◌++◌, ◌<◌, ◌≤◌, ◌^◌, true, false, List, [], length, replicate, slice_index_or, slice_set, if◌then◌else◌}
 use Rattle.std.specs.List.{All}
+use Rattle.epic_num.specs.declared.hop.Field.{Field}
 use Rattle.epic_num.specs.declared.name.HostId.{HostId}
 use Rattle.epic_num.specs.Levels.{version_of, width_of, level_of, is_first_byte, is_tagged}
 use Rattle.epic_num.specs.Messages.{IsHost}
@@ -29,6 +30,10 @@ hop_count p = length p.route.hops
 -- the field of hop j
 unfoldable pub field : Contents → ℕ → List ℕ
 field p j = slice_index_or p.fields j []
+
+-- a field as a value of six bytes, which are 0 past its width
+unfoldable pub as_field : List ℕ → Field
+as_field v = record { bytes = v ++ replicate (6 - length v) 0; width = length v }
 
 -- ---- sizes
 

@@ -24,15 +24,16 @@ no_hop = record { exp = 0; inn = 0; out = 0; link = replicate 8 0 }
 unfoldable pub hops_of : List SegmentHead → ℕ
 hops_of segments = sum_by (λ s. s.count) segments
 
-abbrev pub past_segment : Place → Place
-past_segment p = record p { segment = p.segment + 1 }
+-- the place of hop j among segments that are numbered from n on
+unfoldable pub place_from : ℕ → List SegmentHead → ℕ → Place
+place_from n [] j = record { segment = n; head = no_segment; index = 0 }
+place_from n (s ∷ segments) j =
+    if nat_lt j s.count then record { segment = n; head = s; index = j } else place_from (n + 1) segments (j - s.count)
 
--- The segment that hop j of the packet stands in, and its index there, both from 0 in travel order: the first
+-- The segment that hop j of the packet stands in and the hop's index there, both from 0 in travel order: the first
 -- segment that has more hops than are left to pass.
 unfoldable pub place : List SegmentHead → ℕ → Place
-place [] j = record { segment = 0; head = no_segment; index = 0 }
-place (s ∷ segments) j =
-    if nat_lt j s.count then record { segment = 0; head = s; index = j } else past_segment (place segments (j - s.count))
+place segments j = place_from 0 segments j
 
 -- the hop's place in its segment in construction order, from 1
 unfoldable pub position : Place → ℕ
