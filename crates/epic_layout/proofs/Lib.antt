@@ -4,3 +4,7 @@ pub mod Soundness
 pub mod Offsets
 pub mod Parsed
 pub mod Places
+pub mod Cuts
+pub mod Spelled
+pub mod Limits
+pub mod Codes
