@@ -1,5 +1,5 @@
 -- What the tags of hops and the keys are made over. Each kind of message begins with a byte of its own.
-use Rattle.std.specs.Prelude.{◌≡◌, ℕ, ◌<◌, ◌^◌, ◌==◌, List, [], ◌∷◌, ◌++◌, map, length, nat_eq, IsTrue, if◌then◌else◌}
+use Rattle.std.specs.Prelude.{◌≡◌, ℕ, ◌<◌, ◌^◌, ◌==◌, List, [], ◌∷◌, ◌++◌, map, nat_eq, IsTrue, if◌then◌else◌}
 use Rattle.std.specs.List.{IsDistinct}
 use Rattle.epic_num.specs.declared.name.AsId.{AsId}
 use Rattle.epic_num.specs.declared.name.HostId.{HostId}
@@ -33,8 +33,8 @@ unfoldable pub field_domain : ℕ → ℕ
 field_domain first = if first == 0xE2 then 0x12 else if first == 0xE3 then 0x13 else if first == 0xF2 then 0x32 else if first == 0xF3 then 0x33 else 0
 
 -- levels 2 and 3, under the key that the hop's AS shares with the source: timestamp, source, index and authenticator
-unfoldable pub field_message : ℕ → ℕ → HostId → ℕ → List ℕ → List ℕ
-field_message first ts src hop sigma = field_domain first ∷ (u64_bytes ts ++ (host_bytes src ++ hop ∷ sigma))
+unfoldable pub field23_message : ℕ → ℕ → HostId → ℕ → List ℕ → List ℕ
+field23_message first ts src hop sigma = field_domain first ∷ (u64_bytes ts ++ (host_bytes src ++ hop ∷ sigma))
 
 -- the first byte of the message of a destination field, by the packet's
 unfoldable pub dest_domain : ℕ → ℕ
@@ -73,13 +73,11 @@ pub record IsHost (h : HostId) : Type 0 where
   pub asn : h.asn.0 < 2 ^ 64
   pub host : h.host < 2 ^ 32
 
--- what a field of level 2 or 3 is made over, in range
-pub record IsFieldContent (first ts : ℕ) (src : HostId) (hop : ℕ) (sigma : List ℕ) : Type 0 where
+-- what a field of level 2 or 3 is made over is in range; its index and its authenticator are spelled as they are, and need no bound
+pub record IsFieldContent (first ts : ℕ) (src : HostId) : Type 0 where
   pub is_tagged_first : IsTrue (is_tagged first)
   pub ts_fits : ts < 2 ^ 64
   pub src_fits : IsHost src
-  pub hop_fits : hop < 2 ^ 8
-  pub sigma_length : length sigma ≡ 16
 
 -- two fields of level 2 or 3 are made over the same
 pub record SameFieldContent (first first' ts ts' : ℕ) (src src' : HostId) (hop hop' : ℕ) (sigma sigma' : List ℕ) : Type 0 where
@@ -93,9 +91,9 @@ pub record SameFieldContent (first first' ts ts' : ℕ) (src src' : HostId) (hop
 abbrev pub FieldMessagesDiffer : Type 0
 FieldMessagesDiffer =
     (first first' ts ts' : ℕ) (src src' : HostId) (hop hop' : ℕ) (sigma sigma' : List ℕ)
-    → IsFieldContent first ts src hop sigma
-    → IsFieldContent first' ts' src' hop' sigma'
-    → field_message first ts src hop sigma ≡ field_message first' ts' src' hop' sigma'
+    → IsFieldContent first ts src
+    → IsFieldContent first' ts' src'
+    → field23_message first ts src hop sigma ≡ field23_message first' ts' src' hop' sigma'
     → SameFieldContent first first' ts ts' src src' hop hop' sigma sigma'
 
 -- the same of fields of level 1
