@@ -1,35 +1,23 @@
 -- The parts of a packet are read off from its path bytes, and from the message of its destination field.
-use Rattle.std.proofs.Common.{◌≡◌, ℕ, zero, suc, ◌+◌, ◌^◌, ◌<◌, ◌≤◌, Bool, true, false, List, [], ◌∷◌, ◌++◌, length, take, drop, get_or, refl, ap, sym, ◌∙◌, subst, arith, if◌then◌else◌}
-use Rattle.std.specs.List.{All, flat_map, concat}
-use Rattle.std.specs.Int.{w16, w32, w64, from_be_bytes, to_be_bytes}
-use Rattle.std.proofs.lemmas.List.{append_assoc, append-nil, take_at, drop_at}
+use Rattle.std.proofs.Common.{◌≡◌, ℕ, suc, ◌+◌, ◌<◌, ◌≤◌, Bool, true, false, List, [], ◌∷◌, ◌++◌, length, refl, ap, sym, ◌∙◌, subst, arith, append_assoc, if◌then◌else◌}
+use Rattle.std.specs.Prelude.{IsTrue, ◌==◌}
+use Rattle.std.specs.List.{All, AllByRecursion, flat_map, concat}
+use Rattle.std.proofs.lemmas.Bool.{eqb-false}
+use Rattle.std.proofs.lemmas.List.{append-nil, length-append}
 use Rattle.std.proofs.lemmas.List.Concat.{concat_is}
-use Rattle.std.proofs.lemmas.List.Elements.{All-head, All-tail}
-use Rattle.std.proofs.lemmas.Nat.{from_be_bytes-to_be_bytes_2, from_be_bytes-to_be_bytes_4, from_be_bytes-to_be_bytes_8}
+use Rattle.std.proofs.lemmas.List.Elements.{recursion_from_All}
 use Rattle.epic_num.specs.BigEndian.{u16_bytes, u32_bytes, u64_bytes}
+use Rattle.epic_num.specs.Levels.{width_of, is_tagged}
+use Rattle.epic_num.specs.Messages.{host_bytes, field_domain, field23_message, dest_domain}
+use Rattle.epic_num.proofs.Reading.{read_one, read_part, read_u16, read_u32, read_u64, read_host, read_row, length-u16_bytes, length-u32_bytes}
+use Rattle.epic_num.proofs.MessageLaws.{at_tagged}
 use Rattle.epic_layout.specs.declared.head.SegmentHead.{SegmentHead}
 use Rattle.epic_layout.specs.declared.head.HopHead.{HopHead}
 use Rattle.epic_layout.specs.Route.{Route, hops_of}
-use Rattle.epic_layout.specs.Contents.{IsSegment, IsHop, IsRoute}
-use Rattle.epic_layout.specs.Spelling.{segment_bytes, hop_bytes, path_bytes}
+use Rattle.epic_layout.specs.Contents.{Contents, IsSegment, IsHop, IsRoute, IsPacket, hop_count}
+use Rattle.epic_layout.specs.Spelling.{segment_bytes, hop_bytes, path_bytes, AreUpdates, update_count, dest_message, DestMessagesDiffer, KindsDiffer}
 
--- two texts that begin with pieces of one length
-pub split : {X : Type 0} (n : ℕ) (u v r t : List X) → length u ≡ n → length v ≡ n → u ++ r ≡ v ++ t → (u ≡ v) × (r ≡ t)
-split n u v r t e f h = (sym (take_at u r n e) ∙ ap (take n) h ∙ take_at v t n f, sym (drop_at u r n e) ∙ ap (drop n) h ∙ drop_at v t n f)
-
--- a code is read off from the front of a text
-pub IsReadOff : {X : Type 0} → (X → Type 0) → (X → List ℕ) → Type 0
-IsReadOff {X} P f = (x y : X) (r t : List ℕ) → P x → P y → f x ++ r ≡ f y ++ t → (x ≡ y) × (r ≡ t)
-
-pub rows_read_off : {X : Type 0} (P : X → Type 0) (f : X → List ℕ) → IsReadOff P f → (xs ys : List X) (r t : List ℕ) → length xs ≡ length ys → All P xs → All P ys → flat_map f xs ++ r ≡ flat_map f ys ++ t → (xs ≡ ys) × (r ≡ t)
-unfolding IsReadOff
-rows_read_off P f read [] [] r t n p q e = (refl, e)
-rows_read_off P f read [] (y ∷ ys) r t n p q e = absurd (omega (arith, n))
-rows_read_off P f read (x ∷ xs) [] r t n p q e = absurd (omega (arith, n))
-rows_read_off P f read (x ∷ xs) (y ∷ ys) r t n p q e =
-    let first = read x y (flat_map f xs ++ r) (flat_map f ys ++ t) (All-head P x xs p) (All-head P y ys q) (sym (append_assoc (f x) (flat_map f xs) r) ∙ e ∙ append_assoc (f y) (flat_map f ys) t) in
-    let rest = rows_read_off P f read xs ys r t (omega (arith, n)) (All-tail P x xs p) (All-tail P y ys q) first.1 in
-    ((λ i. first.0 i ∷ rest.0 i), rest.1)
+-- ---- the route
 
 same_direction : (a b : Bool) → ◌≡◌ {A = ℕ} (if a then 1 else 0) (if b then 1 else 0) → a ≡ b
 same_direction true true e = refl
@@ -37,36 +25,96 @@ same_direction true false e = absurd (omega (arith, e))
 same_direction false true e = absurd (omega (arith, e))
 same_direction false false e = refl
 
-pub segment_read_off : IsReadOff IsSegment segment_bytes
-unfolding IsReadOff segment_bytes u32_bytes
-segment_read_off x y r t p q e =
-    let against = same_direction x.against y.against (ap (λ m. get_or m 0 0) e) in
-    let count : x.count ≡ y.count = ap (λ m. get_or m 1 0) e in
-    let ts_path : x.ts_path ≡ y.ts_path = sym (from_be_bytes-to_be_bytes_4 x.ts_path p.ts_path) ∙ ap (λ m. from_be_bytes w32 (take 4 (drop 4 m))) e ∙ from_be_bytes-to_be_bytes_4 y.ts_path q.ts_path in
-    ((λ i. record { against = against i; count = count i; ts_path = ts_path i }), ap (drop 8) e)
+pub length-segment_bytes : (s : SegmentHead) → length (segment_bytes s) ≡ 8
+unfolding segment_bytes u32_bytes
+length-segment_bytes s = refl
 
-pub hop_read_off : IsReadOff IsHop hop_bytes
-unfolding IsReadOff hop_bytes u16_bytes
-hop_read_off x y r t p q e =
-    let exp : x.exp ≡ y.exp = ap (λ m. get_or m 0 0) e in
-    let inn : x.inn ≡ y.inn = sym (from_be_bytes-to_be_bytes_2 x.inn p.inn) ∙ ap (λ m. from_be_bytes w16 (take 2 (drop 1 m))) e ∙ from_be_bytes-to_be_bytes_2 y.inn q.inn in
-    let out : x.out ≡ y.out = sym (from_be_bytes-to_be_bytes_2 x.out p.out) ∙ ap (λ m. from_be_bytes w16 (take 2 (drop 3 m))) e ∙ from_be_bytes-to_be_bytes_2 y.out q.out in
-    let rest = split 8 x.link y.link r t p.link_length q.link_length (ap (drop 5) e) in
-    ((λ i. record { exp = exp i; inn = inn i; out = out i; link = rest.0 i }), rest.1)
+segment_bytes-same : (x y : SegmentHead) → IsSegment x → IsSegment y → segment_bytes x ≡ segment_bytes y → x ≡ y
+unfolding segment_bytes
+segment_bytes-same x y p q e =
+    let direction = read_one {A = ℕ} (if x.against then 1 else 0) (if y.against then 1 else 0) _ _ e in
+    let against = same_direction x.against y.against direction.0 in
+    let count = read_one x.count y.count _ _ direction.1 in
+    let first = read_one 0 0 _ _ count.1 in
+    let second = read_one 0 0 _ _ first.1 in
+    let ts_path = read_u32 x.ts_path y.ts_path [] [] p.ts_path q.ts_path (ap (λ m. m ++ []) second.1) in
+    λ i. record { against = against i; count = count.0 i; ts_path = ts_path.0 i }
+
+pub length-hop_bytes : (h : HopHead) → IsHop h → length (hop_bytes h) ≡ 13
+unfolding hop_bytes u16_bytes
+length-hop_bytes h p = ap (λ n. suc (suc (suc (suc (suc n))))) p.link_length
+
+hop_bytes-same : (x y : HopHead) → IsHop x → IsHop y → hop_bytes x ≡ hop_bytes y → x ≡ y
+unfolding hop_bytes
+hop_bytes-same x y p q e =
+    let exp = read_one x.exp y.exp _ _ e in
+    let inn = read_u16 x.inn y.inn _ _ p.inn q.inn exp.1 in
+    let out = read_u16 x.out y.out x.link y.link p.out q.out inn.1 in
+    λ i. record { exp = exp.0 i; inn = inn.0 i; out = out.0 i; link = out.1 i }
 
 -- the path bytes at the front of a text say the route
-pub route_read_off : IsReadOff IsRoute path_bytes
-unfolding IsReadOff path_bytes
-route_read_off x y r t p q e =
-    let n : length x.segments ≡ length y.segments = ap (λ m. get_or m 0 0) e in
-    let tails : flat_map segment_bytes x.segments ++ (flat_map hop_bytes x.hops ++ r) ≡ flat_map segment_bytes y.segments ++ (flat_map hop_bytes y.hops ++ t)
-        = sym (append_assoc (flat_map segment_bytes x.segments) (flat_map hop_bytes x.hops) r) ∙ ap (drop 1) e ∙ append_assoc (flat_map segment_bytes y.segments) (flat_map hop_bytes y.hops) t in
-    let heads = rows_read_off IsSegment segment_bytes segment_read_off x.segments y.segments _ _ n p.segments q.segments tails in
-    let counts : length x.hops ≡ length y.hops = sym p.counted ∙ ap hops_of heads.0 ∙ q.counted in
-    let hops = rows_read_off IsHop hop_bytes hop_read_off x.hops y.hops r t counts p.hops q.hops heads.1 in
-    ((λ i. record { segments = heads.0 i; hops = hops.0 i }), hops.1)
+pub read_route : (x y : Route) (us vs : List ℕ) → IsRoute x → IsRoute y → path_bytes x ++ us ≡ path_bytes y ++ vs → (x ≡ y) × (us ≡ vs)
+unfolding path_bytes
+read_route x y us vs p q e =
+    let count = read_one (length x.segments) (length y.segments) _ _ e in
+    let tails : flat_map segment_bytes x.segments ++ (flat_map hop_bytes x.hops ++ us) ≡ flat_map segment_bytes y.segments ++ (flat_map hop_bytes y.hops ++ vs)
+    = sym (append_assoc (flat_map segment_bytes x.segments) (flat_map hop_bytes x.hops) us) ∙ count.1 ∙ append_assoc (flat_map segment_bytes y.segments) (flat_map hop_bytes y.hops) vs in
+    let segments = read_row segment_bytes IsSegment 8 (λ s _. length-segment_bytes s) segment_bytes-same x.segments y.segments _ _ count.0 (recursion_from_All IsSegment x.segments p.segments) (recursion_from_All IsSegment y.segments q.segments) tails in
+    let counts : length x.hops ≡ length y.hops = sym p.counted ∙ ap hops_of segments.0 ∙ q.counted in
+    let hops = read_row hop_bytes IsHop 13 length-hop_bytes hop_bytes-same x.hops y.hops us vs counts (recursion_from_All IsHop x.hops p.hops) (recursion_from_All IsHop y.hops q.hops) segments.1 in
+    ((λ i. record { segments = segments.0 i; hops = hops.0 i }), hops.1)
 
 -- equal path bytes are those of one route
 pub same_route : (x y : Route) → IsRoute x → IsRoute y → path_bytes x ≡ path_bytes y → x ≡ y
-unfolding IsReadOff
-same_route x y p q e = (route_read_off x y [] [] p q (ap (λ m. m ++ []) e)).0
+same_route x y p q e = (read_route x y [] [] p q (ap (λ m. m ++ []) e)).0
+
+-- ---- the message of a destination field
+
+read_updates : (w : ℕ) (xs ys : List (List ℕ)) (us vs : List ℕ) → length xs ≡ length ys → All (λ u. length u ≡ w) xs → All (λ u. length u ≡ w) ys → concat xs ++ us ≡ concat ys ++ vs → (xs ≡ ys) × (us ≡ vs)
+read_updates w xs ys us vs n p q e =
+    let rows : flat_map (λ x. x) xs ++ us ≡ flat_map (λ x. x) ys ++ vs = ap (λ m. m ++ us) (sym (concat_is xs)) ∙ e ∙ ap (λ m. m ++ vs) (concat_is ys) in
+    read_row (λ x. x) (λ u. length u ≡ w) w (λ _ l. l) (λ _ _ _ _ same. same) xs ys us vs n (recursion_from_All (λ u. length u ≡ w) xs p) (recursion_from_All (λ u. length u ≡ w) ys q) rows
+
+-- the packet's first byte, by the message's
+first_of : ℕ → ℕ
+first_of domain = if domain == 0x22 then 0xE2 else if domain == 0x23 then 0xE3 else if domain == 0x42 then 0xF2 else 0xF3
+
+first_of-dest_domain : (first : ℕ) → IsTrue (is_tagged first) → first_of (dest_domain first) ≡ first
+unfolding first_of dest_domain
+first_of-dest_domain = at_tagged (λ f. first_of (dest_domain f) ≡ f) refl refl refl refl
+
+-- equal messages of destination fields are made over the same
+pub dest_messages : DestMessagesDiffer
+unfolding dest_message
+dest_messages p q us vs ip iq tp tq up uq e =
+    let domain = read_one (dest_domain p.first) (dest_domain q.first) _ _ e in
+    let first : p.first ≡ q.first = sym (first_of-dest_domain p.first tp) ∙ ap first_of domain.0 ∙ first_of-dest_domain q.first tq in
+    let ts = read_u64 p.ts q.ts _ _ ip.ts iq.ts domain.1 in
+    let src = read_host p.src q.src _ _ ip.src iq.src ts.1 in
+    let dst = read_host p.dst q.dst _ _ ip.dst iq.dst src.1 in
+    let route = read_route p.route q.route _ _ ip.route iq.route dst.1 in
+    let counts : length us ≡ length vs = up.count ∙ (λ i. update_count (first i) (length (route.0 i).hops)) ∙ sym uq.count in
+    let widths : All (λ u. length u ≡ width_of p.first) vs = subst (λ f. All (λ u. length u ≡ width_of f) vs) (sym first) uq.widths in
+    let updates = read_updates (width_of p.first) us vs _ _ counts up.widths widths route.1 in
+    let size = read_u16 (length p.payload) (length q.payload) _ _ (omega (arith, ip.payload_length)) (omega (arith, iq.payload_length)) updates.1 in
+    record {
+      same_first = first;
+      same_ts = ts.0;
+      same_src = src.0;
+      same_dst = dst.0;
+      same_route = route.0;
+      same_updates = updates.0;
+      same_payload = size.1;
+    }
+
+domains_apart : (f : ℕ) → IsTrue (is_tagged f) → (g : ℕ) → IsTrue (is_tagged g) → (dest_domain f == field_domain g) ≡ false
+unfolding dest_domain field_domain
+domains_apart = at_tagged (λ f. (g : ℕ) → IsTrue (is_tagged g) → (dest_domain f == field_domain g) ≡ false)
+    (at_tagged (λ g. (0x22 == field_domain g) ≡ false) refl refl refl refl)
+    (at_tagged (λ g. (0x23 == field_domain g) ≡ false) refl refl refl refl)
+    (at_tagged (λ g. (0x42 == field_domain g) ≡ false) refl refl refl refl)
+    (at_tagged (λ g. (0x43 == field_domain g) ≡ false) refl refl refl refl)
+
+pub kinds_differ : KindsDiffer
+unfolding dest_message field23_message
+kinds_differ p us first ts src hop sigma tp t = eqb-false (dest_domain p.first) (field_domain first) (domains_apart p.first tp first t)

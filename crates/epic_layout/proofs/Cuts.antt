@@ -1,12 +1,12 @@
 -- Pieces of a list of bytes, cut and joined.
-use Rattle.std.proofs.Common.{◌≡◌, ℕ, zero, suc, ◌+◌, ◌-◌, ◌*◌, ◌^◌, ◌<◌, ◌≤◌, List, [], ◌∷◌, ◌++◌, length, take, drop, get_or, map, refl, ap, sym, ◌∙◌, subst, arith, zero-add, ⊎_elim}
+use Rattle.std.proofs.Common.{◌≡◌, ℕ, Fits, w8, zero, suc, ◌+◌, ◌-◌, ◌*◌, ◌^◌, ◌<◌, ◌≤◌, List, [], ◌∷◌, ◌++◌, length, take, drop, get_or, map, refl, ap, sym, ◌∙◌, subst, arith, zero-add, ⊎_elim}
 use Rattle.std.specs.List.{All, flat_map, range_with_len}
 use Rattle.std.specs.Int.{w16, w32, w64, to_be_bytes, from_be_bytes}
 use Rattle.std.proofs.Math.Seq.{take-add}
 use Rattle.std.proofs.lemmas.Bool.{cases_lt}
 use Rattle.std.proofs.lemmas.List.{append_assoc, append-nil, take-append-drop, drop-drop, drop_more, drop_all, get_or-take, get_or-drop, get_or_past, length-take, length-take-le, length-drop, take_all}
 use Rattle.std.proofs.lemmas.List.Concat.{flat_map-append}
-use Rattle.std.proofs.lemmas.List.Elements.{All-take, All-drop}
+use Rattle.std.proofs.lemmas.List.Elements.{All-take, All-drop, All-from_get_or}
 use Rattle.std.proofs.lemmas.Nat.{be_bytes_2, be_bytes_4, be_bytes_8}
 use Rattle.epic_num.specs.BigEndian.{u16_bytes, u32_bytes, u64_bytes}
 use Rattle.epic_layout.specs.Pieces.{byte, piece, number}
@@ -99,3 +99,7 @@ rows b g base w (suc k) each =
     ∙ ap (λ xs. xs ++ piece b (base + w * k) w) (rows b g base w k (λ i l. each i (omega arith)))
     ∙ sym (piece-add b base (w * k) w)
     ∙ ap (piece b base) all
+
+-- as a check knows it of a parameter that is a slice of bytes
+pub IsBytes-from : (b : List ℕ) → ((i : ℕ) → Fits w8 (byte b i)) → IsBytes b
+IsBytes-from b h = All-from_get_or (λ x. x < 256) b 0 (λ i _. (h i).fits)

@@ -8,3 +8,4 @@ pub mod Cuts
 pub mod Spelled
 pub mod Limits
 pub mod Codes
+pub mod SamePath

@@ -22,8 +22,8 @@ pub All-range : (P : ℕ → Type 0) (n : ℕ) → ((i : ℕ) → i < n → P i)
 All-range P n each =
     All-from_get_or P (range_with_len 0 n) 0
     (λ i h. let within : i < n = omega (arith, length-range_with_len 0 n, h) in
-        let here : i ≡ get_or (range_with_len 0 n) i 0 = sym (get_or-range_with_len 0 n i 0 within ∙ zero-add i) in
-        subst P here (each i within))
+    let here : i ≡ get_or (range_with_len 0 n) i 0 = sym (get_or-range_with_len 0 n i 0 within ∙ zero-add i) in
+    subst P here (each i within))
 
 IsHost-at : (b : List ℕ) (asn host : ℕ) → IsBytes b → IsHost (host_at b asn host)
 IsHost-at b asn host bytes = record { asn = number_64 b asn bytes; host = number_32 b host bytes }

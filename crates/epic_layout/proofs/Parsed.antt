@@ -35,4 +35,4 @@ pub egress_parse : (b : List ℕ) (j : ℕ) → j < hops_in b → egress (parse 
 unfolding egress parse route_in
 egress_parse b j h = ap (egress_of (place (segments_in b) j).head.against) (hop_parse b j h)
 
-pub ruleset parsed = (hop_count_parse, segments_parse, place_parse, hop_parse, field_parse, body_parse, ingress_parse, egress_parse)
+pub ruleset parsed = (hop_count_parse, segments_parse, segment_parse, place_parse, hop_parse, field_parse, body_parse, ingress_parse, egress_parse)

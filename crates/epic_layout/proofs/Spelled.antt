@@ -142,3 +142,7 @@ spelling-parse b bytes s =
     ∙ ap (λ xs. piece b 0 8 ++ (piece b 8 32 ++ xs)) (sym (drop-piece b 40 (8 * n)))
     ∙ ap (λ xs. piece b 0 8 ++ xs) (sym (drop-piece b 8 32))
     ∙ sym (drop-piece b 0 8)
+
+pub path_bytes-parse : (b : List ℕ) → path_bytes (route_in b) ≡ length (segments_in b) ∷ (flat_map segment_bytes (segments_in b) ++ flat_map (λ j. hop_bytes (hop_at b j)) (range_with_len 0 (hops_in b)))
+unfolding path_bytes route_in
+path_bytes-parse b = ap (λ xs. length (segments_in b) ∷ (flat_map segment_bytes (segments_in b) ++ xs)) (flat_map-map hop_bytes (hop_at b) (range_with_len 0 (hops_in b)))

@@ -1,11 +1,12 @@
 -- The one spelling of a packet, and the messages that are made of its parts.
-use Rattle.std.specs.Prelude.{◌≡◌, ℕ, ◌==◌, List, [], ◌∷◌, ◌++◌, length, if◌then◌else◌, None}
+use Rattle.std.specs.Prelude.{◌≡◌, ◌≢◌, ℕ, ◌==◌, IsTrue, slice_index, List, [], ◌∷◌, ◌++◌, length, if◌then◌else◌, None}
 use Rattle.std.specs.List.{All, flat_map, concat, zip}
 use Rattle.epic_num.specs.Levels.{level_of, level_number, width_of, is_first_byte, is_tagged}
+use Rattle.epic_num.specs.declared.name.HostId.{HostId}
 use Rattle.epic_num.specs.BigEndian.{u16_bytes, u32_bytes, u64_bytes}
-use Rattle.epic_num.specs.Messages.{host_bytes, dest_domain}
+use Rattle.epic_num.specs.Messages.{host_bytes, dest_domain, field23_message}
 use Rattle.epic_layout.specs.Route.{Route}
-use Rattle.epic_layout.specs.Contents.{Contents, header_len}
+use Rattle.epic_layout.specs.Contents.{Contents, IsPacket, header_len, hop_count}
 use Rattle.epic_layout.specs.Layout.{fault, parse}
 use Rattle.epic_layout.specs.declared.head.SegmentHead.{SegmentHead}
 use Rattle.epic_layout.specs.declared.head.HopHead.{HopHead}
@@ -74,3 +75,30 @@ dest_message p updates =
     ++ (path_bytes p.route
     ++ (concat updates
     ++ (u16_bytes (length p.payload) ++ p.payload))))))
+
+-- two destination fields are made over the same
+pub record SameDestContent (p q : Contents) (us vs : List (List ℕ)) : Type 0 where
+  pub same_first : p.first ≡ q.first
+  pub same_ts : p.ts ≡ q.ts
+  pub same_src : p.src ≡ q.src
+  pub same_dst : p.dst ≡ q.dst
+  pub same_route : p.route ≡ q.route
+  pub same_updates : us ≡ vs
+  pub same_payload : p.payload ≡ q.payload
+
+-- equal messages of destination fields are made over the same, whatever the two packets' first bytes
+abbrev pub DestMessagesDiffer : Type 0
+DestMessagesDiffer =
+    (p q : Contents) (us vs : List (List ℕ))
+    → IsPacket p → IsPacket q
+    → IsTrue (is_tagged p.first) → IsTrue (is_tagged q.first)
+    → AreUpdates p.first (hop_count p) us → AreUpdates q.first (hop_count q) vs
+    → dest_message p us ≡ dest_message q vs
+    → SameDestContent p q us vs
+
+-- the message of a destination field begins with another byte than that of a hop's field
+abbrev pub KindsDiffer : Type 0
+KindsDiffer =
+    (p : Contents) (us : List (List ℕ)) (first ts : ℕ) (src : HostId) (hop : ℕ) (sigma : List ℕ)
+    → IsTrue (is_tagged p.first) → IsTrue (is_tagged first)
+    → slice_index (dest_message p us) 0 ≢ slice_index (field23_message first ts src hop sigma) 0

@@ -5,9 +5,9 @@ ghost use Rattle.epic_layout.specs.Pieces.{byte, number};
 ghost use Rattle.epic_layout.specs.Contents.{segment_offset, dest_len, shape};
 ghost use Rattle.epic_layout.specs.Layout.{any_segment, is_reserved, is_miscounted, hops_in, parse, fault, or_fault};
 
+use crate::Shape;
 use crate::read::u16_at;
-use crate::{Shape, is_first_byte, is_tagged, level_of, version_of, width_of};
-use epic_num::LayoutError;
+use epic_num::{LayoutError, is_first_byte, is_tagged, level_of, version_of, width_of};
 
 /// What the segment headers tell of.
 #[derive(Clone, Copy)]

@@ -20,7 +20,7 @@ pub struct HopHead {
 
 /// Where a hop of the packet stands.
 #[derive(Clone, Copy, Debug, PartialEq, Eq)]
-pub struct Place {
+pub struct HopPlace {
     /// The number of its segment, from 0 in travel order.
     pub segment: u8,
     /// The header of its segment.

@@ -4,7 +4,8 @@ ghost use Rattle.epic_layout.specs.Layout.{parse, hops_in, hop_len, hop_offset};
 ghost use Rattle.epic_layout.specs.Sound.{IsSound};
 ghost use Rattle.epic_view.specs.View.{IsView};
 
-use epic_layout::{Shape, width_of};
+use epic_layout::Shape;
+use epic_num::width_of;
 
 /// The sizes of a packet, and where its parts lie, computed once.
 #[derive(Clone, Copy)]

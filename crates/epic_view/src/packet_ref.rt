@@ -1,8 +1,9 @@
-ghost use Rattle.std.specs.Prelude.{◌≡◌, ◌<◌, length};
+ghost use Rattle.std.specs.Prelude.{◌≡◌, ◌<◌, ◌↔◌, IsTrue, length, slice_index_or};
 ghost use Rattle.epic_num.specs.Levels.{is_first_byte};
 ghost use Rattle.epic_layout.specs.Contents as contents;
 ghost use Rattle.epic_layout.specs.Contents.{hop_count, as_field};
-ghost use Rattle.epic_layout.specs.Route.{place};
+ghost use Rattle.epic_layout.specs.Route.{place, no_segment};
+ghost use Rattle.epic_layout.specs.Spelling.{segment_bytes, hop_bytes, path_bytes};
 ghost use Rattle.epic_layout.specs.Route as route;
 ghost use Rattle.epic_layout.specs.Layout.{parse, fault, or_fault};
 
@@ -146,6 +147,29 @@ impl<'a> PacketRef<'a> {
         ensures { result ≡ route.successor (place self.now.route.segments hop) hop }
     {
         places::successor(places::place_at(self.bytes, self.frame, hop), hop)
+    }
+
+    /// The path bytes of the two packets are the same: segment headers, and hops without their fields.
+    pub fn same_path(&self, other: &PacketRef<'_>) -> bool
+        ensures { IsTrue result ↔ (path_bytes self.now.route ≡ path_bytes other.now.route) }
+    {
+        reading::same_path(self.bytes, self.frame, other.bytes, other.frame)
+    }
+
+    /// The 8 bytes of a segment's header, which stand in the path bytes.
+    pub fn segment_head(&self, segment: u8) -> [u8; 8]
+        requires { segment < length self.now.route.segments }
+        ensures { result ≡ segment_bytes (slice_index_or self.now.route.segments segment no_segment) }
+    {
+        reading::segment_head(self.bytes, self.frame, segment)
+    }
+
+    /// The 13 bytes of a hop without its field, which stand in the path bytes.
+    pub fn hop_head(&self, hop: u8) -> [u8; 13]
+        requires { hop < hop_count self.now }
+        ensures { result ≡ hop_bytes (route.hop self.now.route hop) }
+    {
+        reading::hop_head(self.bytes, self.frame, hop)
     }
 
     /// The destination field, and zeros at levels 0 and 1.

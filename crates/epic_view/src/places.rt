@@ -5,11 +5,11 @@ ghost use Rattle.epic_layout.specs.Layout.{segments_in, hops_in};
 ghost use Rattle.epic_view.specs.View.{IsView};
 
 use crate::frame::Frame;
-use epic_layout::{Place, segment_head_at};
+use epic_layout::{HopPlace, segment_head_at};
 
 /// The segment that a hop stands in, and its index there.
 #[tactic(auto, using(crate::proofs::Walk::walk), unfolding(epic_layout::specs::Route::place))]
-pub fn place_at(bytes: &[u8], frame: Frame, hop: u8) -> Place
+pub fn place_at(bytes: &[u8], frame: Frame, hop: u8) -> HopPlace
     requires view { IsView bytes.now frame }
     requires there { hop < hops_in bytes.now }
     ensures place { result ≡ route.place (segments_in bytes.now) hop }
@@ -20,7 +20,7 @@ pub fn place_at(bytes: &[u8], frame: Frame, hop: u8) -> Place
     for segment in 0..frame.shape.segments {
         let head = segment_head_at(bytes, segment);
         if index < head.count {
-            return Place {
+            return HopPlace {
                 segment,
                 head,
                 index,
@@ -33,7 +33,7 @@ pub fn place_at(bytes: &[u8], frame: Frame, hop: u8) -> Place
 
 /// The hop's place in its segment in construction order, from 1.
 #[tactic(auto, unfolding(epic_layout::specs::Route::position))]
-pub fn position(place: Place) -> u8
+pub fn position(place: HopPlace) -> u8
     requires { place.index < place.head.count }
     ensures { result ≡ route.position place }
 {
@@ -46,7 +46,7 @@ pub fn position(place: Place) -> u8
 
 /// The hop is the first of its segment in travel order.
 #[tactic(auto, unfolding(epic_layout::specs::Route::is_first))]
-pub fn is_first(place: Place) -> bool
+pub fn is_first(place: HopPlace) -> bool
     ensures { result ≡ route.is_first place }
 {
     place.index == 0
@@ -54,7 +54,7 @@ pub fn is_first(place: Place) -> bool
 
 /// The hop is the last of its segment in travel order.
 #[tactic(auto, unfolding(epic_layout::specs::Route::is_last))]
-pub fn is_last(place: Place) -> bool
+pub fn is_last(place: HopPlace) -> bool
     requires { place.index < place.head.count }
     ensures { result ≡ route.is_last place }
 {
@@ -63,7 +63,7 @@ pub fn is_last(place: Place) -> bool
 
 /// The hop of the same segment whose position is one greater, where `hop` stands at the place.
 #[tactic(auto, unfolding(epic_layout::specs::Route::position, epic_layout::specs::Route::successor))]
-pub fn successor(place: Place, hop: u8) -> Option<u8>
+pub fn successor(place: HopPlace, hop: u8) -> Option<u8>
     requires inside { place.index < place.head.count }
     requires passed { place.index ≤ hop }
     requires fits { hop < 255 }

@@ -1,16 +1,18 @@
 //! The parts of a packet's bytes.
-ghost use Rattle.std.specs.Prelude.{◌≡◌, ◌+◌, ◌<◌, ◌≤◌, length};
+ghost use Rattle.std.specs.Prelude.{◌≡◌, ◌+◌, ◌<◌, ◌≤◌, ◌↔◌, IsTrue, length};
 ghost use Rattle.epic_layout.specs.Route as route;
 ghost use Rattle.epic_layout.specs.Contents as contents;
 ghost use Rattle.epic_layout.specs.Layout as layout;
-ghost use Rattle.epic_layout.specs.Layout.{segments_in, hops_in, host_at, field_at, dest_field_in};
+ghost use Rattle.epic_layout.specs.Layout.{segments_in, segment_at, hops_in, host_at, field_at, dest_field_in};
+ghost use Rattle.epic_layout.specs.Pieces.{byte, piece};
+ghost use Rattle.epic_layout.specs.Spelling.{segment_bytes, hop_bytes, path_bytes};
 ghost use Rattle.epic_layout.specs.Sound.{IsSound};
 ghost use Rattle.epic_view.specs.View.{IsView};
 
 use crate::frame::{Frame, hop_at};
 use crate::places::{place_at, position};
-use epic_layout::{bytes_at, hop_head_at, is_tagged, u16_at, u32_at, u64_at};
-use epic_num::{AsId, Body, Field, HostId};
+use epic_layout::{bytes_at, hop_head_at, u16_at, u32_at, u64_at};
+use epic_num::{AsId, Body, Field, HostId, is_tagged};
 
 /// A host: its AS at one place, its number at another.
 pub fn host(bytes: &[u8], asn: usize, number: usize) -> HostId
@@ -106,4 +108,56 @@ pub fn dest_field(bytes: &[u8], frame: Frame) -> [u8; 16]
     } else {
         [0; 16]
     }
+}
+
+/// The 8 bytes of a segment's header.
+pub fn segment_head(bytes: &[u8], frame: Frame, segment: u8) -> [u8; 8]
+    requires view { IsView bytes.now frame }
+    requires there { segment < byte bytes.now 6 }
+    ensures { result ≡ segment_bytes (segment_at bytes.now segment) }
+{
+    bytes_at(bytes, 40 + 8 * segment as usize)
+}
+
+/// The first 13 bytes of a hop, which are all but its field.
+pub fn hop_head(bytes: &[u8], frame: Frame, hop: u8) -> [u8; 13]
+    requires view { IsView bytes.now frame }
+    requires there { hop < hops_in bytes.now }
+    ensures { result ≡ hop_bytes (layout.hop_at bytes.now hop) }
+{
+    bytes_at(bytes, hop_at(bytes, frame, hop))
+}
+
+/// The `len` bytes from one place on are those from another place on.
+fn same_piece(left: &[u8], at: usize, right: &[u8], other: usize, len: usize) -> bool
+    requires left { at + len ≤ length left.now }
+    requires right { other + len ≤ length right.now }
+    ensures { IsTrue result ↔ (piece left.now at len ≡ piece right.now other len) }
+{
+    left[at..at + len] == right[other..other + len]
+}
+
+/// The path bytes of two packets are the same.
+pub fn same_path(left: &[u8], left_frame: Frame, right: &[u8], right_frame: Frame) -> bool
+    requires left_view { IsView left.now left_frame }
+    requires right_view { IsView right.now right_frame }
+    ensures { IsTrue result ↔ (path_bytes (layout.parse left.now).route ≡ path_bytes (layout.parse right.now).route) }
+{
+    if left_frame.shape.segments != right_frame.shape.segments {
+        return false;
+    }
+    if left_frame.shape.hops != right_frame.shape.hops {
+        return false;
+    }
+    if !same_piece(left, 40, right, 40, 8 * left_frame.shape.segments as usize) {
+        return false;
+    }
+    for hop in 0..left_frame.shape.hops {
+        let at = hop_at(left, left_frame, hop);
+        let other = hop_at(right, right_frame, hop);
+        if !same_piece(left, at, right, other, 13) {
+            return false;
+        }
+    }
+    true
 }
