@@ -1,21 +1,20 @@
 -- The parts of a packet are read off from its path bytes, and from the message of its destination field.
-use Rattle.std.proofs.Common.{◌≡◌, ℕ, suc, ◌+◌, ◌<◌, ◌≤◌, Bool, true, false, List, [], ◌∷◌, ◌++◌, length, refl, ap, sym, ◌∙◌, subst, arith, append_assoc, if◌then◌else◌}
+use Rattle.std.proofs.Common.{◌≡◌, ℕ, suc, Bool, true, false, List, [], ◌++◌, length, refl, ap, sym, ◌∙◌, subst, arith, append_assoc, if◌then◌else◌}
 use Rattle.std.specs.Prelude.{IsTrue, ◌==◌}
-use Rattle.std.specs.List.{All, AllByRecursion, flat_map, concat}
+use Rattle.std.specs.List.{All, flat_map, concat}
 use Rattle.std.proofs.lemmas.Bool.{eqb-false}
-use Rattle.std.proofs.lemmas.List.{append-nil, length-append}
 use Rattle.std.proofs.lemmas.List.Concat.{concat_is}
 use Rattle.std.proofs.lemmas.List.Elements.{recursion_from_All}
-use Rattle.epic_num.specs.BigEndian.{u16_bytes, u32_bytes, u64_bytes}
+use Rattle.epic_num.specs.BigEndian.{u16_bytes, u32_bytes}
 use Rattle.epic_num.specs.Levels.{width_of, is_tagged}
-use Rattle.epic_num.specs.Messages.{host_bytes, field_domain, field23_message, dest_domain}
-use Rattle.epic_num.proofs.Reading.{read_one, read_part, read_u16, read_u32, read_u64, read_host, read_row, length-u16_bytes, length-u32_bytes}
+use Rattle.epic_num.specs.Messages.{field_domain, field23_message, dest_domain}
+use Rattle.epic_num.proofs.Reading.{read_one, read_u16, read_u32, read_u64, read_host, read_row}
 use Rattle.epic_num.proofs.MessageLaws.{at_tagged}
 use Rattle.epic_layout.specs.declared.head.SegmentHead.{SegmentHead}
 use Rattle.epic_layout.specs.declared.head.HopHead.{HopHead}
 use Rattle.epic_layout.specs.Route.{Route, hops_of}
-use Rattle.epic_layout.specs.Contents.{Contents, IsSegment, IsHop, IsRoute, IsPacket, hop_count}
-use Rattle.epic_layout.specs.Spelling.{segment_bytes, hop_bytes, path_bytes, AreUpdates, update_count, dest_message, DestMessagesDiffer, KindsDiffer}
+use Rattle.epic_layout.specs.Contents.{IsSegment, IsHop, IsRoute}
+use Rattle.epic_layout.specs.Spelling.{segment_bytes, hop_bytes, path_bytes, update_count, dest_message, DestMessagesDiffer, KindsDiffer}
 
 -- ---- the route
 

@@ -1,20 +1,18 @@
 -- What sound bytes say is within the limits of the layout.
-use Rattle.std.proofs.Common.{◌≡◌, ℕ, ◌+◌, ◌^◌, ◌<◌, ◌≤◌, Bool, true, false, List, [], length, get_or, map, replicate, refl, ap, sym, ◌∙◌, subst, arith, zero-add}
+use Rattle.std.proofs.Common.{◌≡◌, ℕ, ◌+◌, ◌<◌, ◌≤◌, true, false, List, length, get_or, replicate, refl, sym, ◌∙◌, subst, arith, zero-add}
 use Rattle.std.specs.List.{All, range_with_len}
 use Rattle.std.specs.Int.{w16}
 use Rattle.std.proofs.lemmas.Bool.{ltb-false, or_parts, cond-true, cond-false, cond_both}
-use Rattle.std.proofs.lemmas.List.{length-replicate}
 use Rattle.std.proofs.lemmas.List.Elements.{All-from_get_or, All-map, All-drop, All-replicate}
 use Rattle.std.proofs.lemmas.List.FromFn.{length-range_with_len, get_or-range_with_len, length-map-range_with_len}
 use Rattle.epic_num.specs.Levels.{width_of, is_tagged}
 use Rattle.epic_num.specs.Messages.{IsHost}
 use Rattle.epic_layout.specs.Pieces.{byte, piece, number}
-use Rattle.epic_layout.specs.Route.{Route, hops_of}
-use Rattle.epic_layout.specs.Contents.{Contents, IsBytes, IsSegment, IsHop, IsRoute, IsField, IsPacket, hop_count, segment_offset, dest_len}
-use Rattle.epic_layout.specs.Layout.{parse, route_in, segments_in, segment_at, hops_in, hop_len, hop_offset, hop_head_at, hop_at, field_offset, field_at, dest_offset, dest_field_in, header_len_in, host_at, any_segment, is_miscounted}
+use Rattle.epic_layout.specs.Contents.{IsBytes, IsSegment, IsHop, IsRoute, IsField, IsPacket, segment_offset, dest_len}
+use Rattle.epic_layout.specs.Layout.{parse, route_in, segments_in, segment_at, hops_in, hop_offset, hop_head_at, hop_at, field_offset, field_at, dest_offset, dest_field_in, header_len_in, host_at, is_miscounted}
 use Rattle.epic_layout.specs.Sound.{IsSound}
 use Rattle.epic_layout.proofs.Shapes.{segments_parse, hop_count_parse, payload_parse}
-use Rattle.epic_layout.proofs.Offsets.{hop_there, width_least}
+use Rattle.epic_layout.proofs.Offsets.{hop_there}
 use Rattle.epic_layout.proofs.Cuts.{byte_fits, IsBytes-piece, length-piece, number_16, number_32, number_64}
 use Rattle.epic_layout.proofs.Spelled.{no_segment_meets}
 

@@ -1,10 +1,9 @@
 -- When two packets' bytes have equal path bytes.
-use Rattle.std.proofs.Common.{◌≡◌, ℕ, zero, suc, ◌+◌, ◌*◌, ◌<◌, ◌≤◌, List, [], ◌∷◌, ◌++◌, length, get_or, refl, ap, sym, ◌∙◌, arith}
+use Rattle.std.proofs.Common.{◌≡◌, ℕ, zero, suc, ◌+◌, ◌*◌, ◌<◌, List, [], ◌∷◌, ◌++◌, length, refl, ap, sym, ◌∙◌, arith}
 use Rattle.std.specs.List.{flat_map, range_with_len}
-use Rattle.std.proofs.lemmas.List.{append-nil}
 use Rattle.std.proofs.lemmas.List.Concat.{flat_map-append}
 use Rattle.epic_layout.specs.Pieces.{byte, piece}
-use Rattle.epic_layout.specs.Route.{Route, hop}
+use Rattle.epic_layout.specs.Route.{hop}
 use Rattle.epic_layout.specs.Contents.{IsBytes}
 use Rattle.epic_layout.specs.Layout.{parse, route_in, segments_in, hops_in, hop_offset, hop_at}
 use Rattle.epic_layout.specs.Sound.{IsSound}

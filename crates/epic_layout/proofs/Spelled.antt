@@ -1,23 +1,21 @@
 -- Sound bytes are the spelling of what they say.
-use Rattle.std.proofs.Common.{◌≡◌, ℕ, zero, suc, ◌+◌, ◌-◌, ◌*◌, ◌^◌, ◌<◌, ◌≤◌, Bool, true, false, List, [], ◌∷◌, ◌++◌, length, take, drop, get_or, map, refl, ap, sym, ◌∙◌, subst, arith, zero-add, ⊎_elim, if◌then◌else◌, inl, inr}
-use Rattle.std.specs.Prelude.{nat_eq, nat_lt, ◌==◌, not}
-use Rattle.std.specs.List.{list_any, flat_map, range_with_len, zip}
-use Rattle.std.specs.Int.{w16, w32, w64}
-use Rattle.std.proofs.lemmas.Bool.{ltb-false, eqb-true, eq-eqb, not-false, or_parts, cases_Bool, cond-true, cond-false, ne_eqb, false_from_ne_true, false≢true}
-use Rattle.std.proofs.lemmas.List.{append_assoc}
+use Rattle.std.proofs.Common.{◌≡◌, ℕ, zero, suc, ◌+◌, ◌*◌, ◌<◌, ◌≤◌, Bool, true, false, List, [], ◌∷◌, ◌++◌, length, drop, get_or, map, refl, ap, sym, ◌∙◌, arith, zero-add, if◌then◌else◌}
+use Rattle.std.specs.Prelude.{◌==◌}
+use Rattle.std.specs.List.{flat_map, range_with_len, zip}
+use Rattle.std.specs.Int.{w16}
+use Rattle.std.proofs.lemmas.Bool.{ltb-false, eqb-true, not-false, or_parts, false_from_ne_true, false≢true}
 use Rattle.std.proofs.lemmas.List.Folds.{flat_map-map, list_any_at}
 use Rattle.std.proofs.lemmas.List.FromFn.{length-range_with_len, get_or-range_with_len}
 use Rattle.epic_num.specs.Levels.{width_of, is_tagged}
-use Rattle.epic_num.specs.BigEndian.{u16_bytes, u32_bytes, u64_bytes}
-use Rattle.epic_layout.specs.declared.head.HopHead.{HopHead}
+use Rattle.epic_num.specs.BigEndian.{u16_bytes}
 use Rattle.epic_layout.specs.Pieces.{byte, piece, number}
-use Rattle.epic_layout.specs.Contents.{Contents, IsBytes, segment_offset, dest_len, header_len, hop_count}
-use Rattle.epic_layout.specs.Layout.{parse, route_in, segments_in, segment_at, hops_in, hop_len, hop_offset, hop_head_at, hop_at, field_offset, field_at, dest_offset, dest_field_in, header_len_in, any_segment, is_reserved, is_miscounted}
+use Rattle.epic_layout.specs.Contents.{IsBytes, segment_offset, dest_len, header_len}
+use Rattle.epic_layout.specs.Layout.{parse, route_in, segments_in, segment_at, hops_in, hop_len, hop_offset, hop_head_at, hop_at, field_at, dest_offset, dest_field_in, header_len_in, any_segment, is_reserved}
 use Rattle.epic_layout.specs.Sound.{IsSound}
 use Rattle.epic_layout.specs.Spelling.{segment_bytes, hop_bytes, path_bytes, hop_with_field, size_bytes, end_bytes, dest_bytes, spelling}
-use Rattle.epic_layout.proofs.Shapes.{segments_parse, hop_count_parse, header_len_parse, payload_parse}
-use Rattle.epic_layout.proofs.Offsets.{hop_within, hop_there, width_least}
-use Rattle.epic_layout.proofs.Cuts.{byte_fits, piece-add, piece-suc, piece_2, piece_4, drop-piece, u16_bytes-number, u32_bytes-number, u64_bytes-number, rows}
+use Rattle.epic_layout.proofs.Shapes.{segments_parse, header_len_parse, payload_parse}
+use Rattle.epic_layout.proofs.Offsets.{hop_there}
+use Rattle.epic_layout.proofs.Cuts.{piece-add, piece-suc, piece_2, piece_4, drop-piece, u16_bytes-number, u32_bytes-number, u64_bytes-number, rows}
 
 -- a test that no segment meets isn't met by segment i
 pub no_segment_meets : (test : ℕ → Bool) (b : List ℕ) (i : ℕ) → any_segment test b ≡ false → i < byte b 6 → test i ≡ false

@@ -6,6 +6,7 @@ ghost use Rattle.epic_layout.specs.Route.{place, no_segment};
 ghost use Rattle.epic_layout.specs.Spelling.{segment_bytes, hop_bytes, path_bytes};
 ghost use Rattle.epic_layout.specs.Route as route;
 ghost use Rattle.epic_layout.specs.Layout.{parse, fault, or_fault};
+ghost use Rattle.epic_view.specs.View.{IsView};
 
 use crate::frame::{Frame, frame_of};
 use crate::{places, reading};
@@ -44,6 +45,14 @@ impl<'a> PacketRef<'a> {
             bytes,
             frame: frame_of(bytes, shape),
         })
+    }
+
+    /// The view of bytes whose frame is known.
+    pub(crate) fn of(bytes: &'a [u8], frame: Frame) -> PacketRef<'a>
+        requires { IsView bytes.now frame }
+        ensures { result ≡ parse bytes.now }
+    {
+        PacketRef { bytes, frame }
     }
 
     /// Version and level: 0xE0 to 0xE3, 0xF2 or 0xF3.

@@ -1,8 +1,7 @@
-use Rattle.std.proofs.Common.{◌≡◌, ℕ, ◌+◌, ◌*◌, ◌<◌, ◌↔◌, IsTrue, true, false, List, refl, ap, sym, ◌∙◌, arith}
+use Rattle.std.proofs.Common.{◌≡◌, ◌*◌, ◌<◌, ◌↔◌, IsTrue, false, refl, ap, sym, ◌∙◌, arith}
 use Rattle.std.proofs.lemmas.Bool.{false≢true}
 use Rattle.epic_layout.specs.Pieces.{byte, piece}
-use Rattle.epic_layout.specs.Layout.{parse, hops_in, hop_offset}
-use Rattle.epic_layout.specs.Spelling.{path_bytes}
+use Rattle.epic_layout.specs.Layout.{hops_in}
 use Rattle.epic_layout.proofs.Cuts.{IsBytes-from}
 use Rattle.epic_layout.proofs.SamePath.{SamePieces, path_from_pieces, pieces_from_path}
 use Rattle.epic_view.proofs.reading.same_path.Goals as goal
