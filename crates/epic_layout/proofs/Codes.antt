@@ -41,7 +41,7 @@ segment_bytes-same x y p q e =
 
 pub length-hop_bytes : (h : HopHead) → IsHop h → length (hop_bytes h) ≡ 13
 unfolding hop_bytes u16_bytes
-length-hop_bytes h p = ap (λ n. suc (suc (suc (suc (suc n))))) p.link_length
+length-hop_bytes h p = ap (λ n. suc (suc (suc (suc (suc n))))) p.link
 
 hop_bytes-same : (x y : HopHead) → IsHop x → IsHop y → hop_bytes x ≡ hop_bytes y → x ≡ y
 unfolding hop_bytes
@@ -95,7 +95,7 @@ dest_messages p q us vs ip iq tp tq up uq e =
     let counts : length us ≡ length vs = up.count ∙ (λ i. update_count (first i) (length (route.0 i).hops)) ∙ sym uq.count in
     let widths : All (λ u. length u ≡ width_of p.first) vs = subst (λ f. All (λ u. length u ≡ width_of f) vs) (sym first) uq.widths in
     let updates = read_updates (width_of p.first) us vs _ _ counts up.widths widths route.1 in
-    let size = read_u16 (length p.payload) (length q.payload) _ _ (omega (arith, ip.payload_length)) (omega (arith, iq.payload_length)) updates.1 in
+    let size = read_u16 (length p.payload) (length q.payload) _ _ (omega (arith, ip.payload)) (omega (arith, iq.payload)) updates.1 in
     record {
       same_first = first;
       same_ts = ts.0;

@@ -8,7 +8,7 @@ use Rattle.std.proofs.lemmas.List.FromFn.{length-range_with_len, get_or-range_wi
 use Rattle.epic_num.specs.Levels.{width_of, is_tagged}
 use Rattle.epic_num.specs.Messages.{IsHost}
 use Rattle.epic_layout.specs.Pieces.{byte, piece, number}
-use Rattle.epic_layout.specs.Contents.{IsBytes, IsSegment, IsHop, IsRoute, IsField, IsPacket, segment_offset, dest_len}
+use Rattle.epic_layout.specs.Contents.{IsBytes, IsSegment, IsHop, IsRoute, IsPacket, HoldsBytes, segment_offset, dest_len}
 use Rattle.epic_layout.specs.Layout.{parse, route_in, segments_in, segment_at, hops_in, hop_offset, hop_head_at, hop_at, field_offset, field_at, dest_offset, dest_field_in, header_len_in, host_at, is_miscounted}
 use Rattle.epic_layout.specs.Sound.{IsSound}
 use Rattle.epic_layout.proofs.Shapes.{segments_parse, hop_count_parse, payload_parse}
@@ -38,8 +38,7 @@ IsHop-at b at bytes there = record {
   exp = byte_fits b bytes at;
   inn = number_16 b (at + 1) bytes;
   out = number_16 b (at + 3) bytes;
-  link_length = length-piece b (at + 5) 8 (omega arith);
-  link = IsBytes-piece b bytes (at + 5) 8;
+  link = length-piece b (at + 5) 8 (omega arith);
 }
 
 pub IsRoute-parse : (b : List ℕ) → IsBytes b → IsSound b → IsRoute (parse b).route
@@ -51,12 +50,6 @@ IsRoute-parse b bytes s = record {
   counted = sym (hop_count_parse b);
   few_hops = omega (arith, hop_count_parse b, s.few_hops);
   hops = All-map IsHop (hop_at b) _ (All-range (λ j. IsHop (hop_at b j)) (hops_in b) (λ j h. IsHop-at b (hop_offset b j) bytes (omega (arith, hop_there b j s h))));
-}
-
-IsField-at : (b : List ℕ) (j : ℕ) → IsBytes b → IsSound b → j < hops_in b → IsField (byte b 0) (field_at b j)
-IsField-at b j bytes s h = record {
-  field_length = length-piece b (field_offset b j) (width_of (byte b 0)) (omega (arith, hop_there b j s h));
-  field_bytes = IsBytes-piece b bytes (field_offset b j) (width_of (byte b 0));
 }
 
 dest_there : (b : List ℕ) → IsSound b → is_tagged (byte b 0) ≡ true → dest_offset b + 16 ≤ length b
@@ -89,10 +82,22 @@ IsPacket-parse b bytes s = record {
   route = IsRoute-parse b bytes s;
   current = omega (arith, hop_count_parse b, s.current);
   counted = length-map-range_with_len (field_at b) 0 (hops_in b) ∙ sym (hop_count_parse b);
-  fields = All-map (IsField (byte b 0)) (field_at b) _ (All-range (λ j. IsField (byte b 0) (field_at b j)) (hops_in b) (λ j h. IsField-at b j bytes s h));
+  fields = All-map (λ v. length v ≡ width_of (byte b 0)) (field_at b) _
+      (All-range (λ j. length (field_at b j) ≡ width_of (byte b 0)) (hops_in b) (λ j h. length-piece b (field_offset b j) (width_of (byte b 0)) (omega (arith, hop_there b j s h))));
   dest_length = length-dest_field b s;
-  dest_bytes = IsBytes-dest_field b bytes;
   untagged = untagged_zeros b;
-  payload_length = omega (arith, payload_parse b (number w16 b 4) s.whole, s.payload);
-  payload = All-drop (λ x. x < 256) (header_len_in b) b bytes;
+  payload = omega (arith, payload_parse b (number w16 b 4) s.whole, s.payload);
+}
+
+link_bytes : (b : List ℕ) (at : ℕ) → IsBytes b → IsBytes (hop_head_at b at).link
+unfolding hop_head_at
+link_bytes b at bytes = IsBytes-piece b bytes (at + 5) 8
+
+pub HoldsBytes-parse : (b : List ℕ) → IsBytes b → HoldsBytes (parse b)
+unfolding parse route_in
+HoldsBytes-parse b bytes = record {
+  links = All-map (λ h. IsBytes h.link) (hop_at b) _ (All-range (λ j. IsBytes (hop_at b j).link) (hops_in b) (λ j _. link_bytes b (hop_offset b j) bytes));
+  field_bytes = All-map IsBytes (field_at b) _ (All-range (λ j. IsBytes (field_at b j)) (hops_in b) (λ j _. IsBytes-piece b bytes (field_offset b j) (width_of (byte b 0))));
+  dest_bytes = IsBytes-dest_field b bytes;
+  payload_bytes = All-drop (λ x. x < 256) (header_len_in b) b bytes;
 }

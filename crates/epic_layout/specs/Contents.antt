@@ -75,8 +75,7 @@ pub record IsHop (h : HopHead) : Type 0 where
   pub exp : h.exp < 2 ^ 8
   pub inn : h.inn < 2 ^ 16
   pub out : h.out < 2 ^ 16
-  pub link_length : length h.link ≡ 8
-  pub link : IsBytes h.link
+  pub link : length h.link ≡ 8
 
 -- one to three segments, whose hops are 32 at most
 pub record IsRoute (r : Route) : Type 0 where
@@ -87,10 +86,6 @@ pub record IsRoute (r : Route) : Type 0 where
   pub few_hops : length r.hops ≤ 32
   pub hops : All IsHop r.hops
 
-pub record IsField (first : ℕ) (v : List ℕ) : Type 0 where
-  pub field_length : length v ≡ width_of first
-  pub field_bytes : IsBytes v
-
 -- each part is within the limits of the layout
 pub record IsPacket (p : Contents) : Type 0 where
   pub exists : is_first_byte p.first ≡ true
@@ -100,12 +95,17 @@ pub record IsPacket (p : Contents) : Type 0 where
   pub route : IsRoute p.route
   pub current : p.current ≤ hop_count p
   pub counted : length p.fields ≡ hop_count p
-  pub fields : All (IsField p.first) p.fields
+  pub fields : All (λ v. length v ≡ width_of p.first) p.fields
   pub dest_length : length p.dest_field ≡ 16
-  pub dest_bytes : IsBytes p.dest_field
   pub untagged : is_tagged p.first ≡ false → p.dest_field ≡ replicate 16 0
-  pub payload_length : length p.payload ≤ 8192
-  pub payload : IsBytes p.payload
+  pub payload : length p.payload ≤ 8192
+
+-- the parts that are lists of bytes hold bytes
+pub record HoldsBytes (p : Contents) : Type 0 where
+  pub links : All (λ h. IsBytes h.link) p.route.hops
+  pub field_bytes : All IsBytes p.fields
+  pub dest_bytes : IsBytes p.dest_field
+  pub payload_bytes : IsBytes p.payload
 
 -- ---- changes
 
