@@ -20,9 +20,16 @@ mod passed;
 mod path;
 mod path_error;
 mod path_ref;
+mod print;
 mod profile;
+mod read;
+mod read_numeral;
+mod read_parts;
 mod segment;
 mod send_error;
+mod spelling;
+#[cfg(test)]
+mod tests;
 mod turn;
 mod verdict;
 
@@ -48,8 +55,11 @@ pub use passed::{PassResult, Passed, PassedList, Place};
 pub use path::Path;
 pub use path_error::PathError;
 pub use path_ref::{PathList, PathRef};
+pub use print::{print_as, print_host};
 pub use profile::Profile;
+pub use read::{read_as, read_host, read_number};
 pub use segment::{Leg, SegHop, SegKind, Segment};
 pub use send_error::{NoKey, SendError};
+pub use spelling::{Spelling, as_has_one_spelling, host_has_one_spelling, number_has_one_spelling};
 pub use turn::{Check, Turn};
 pub use verdict::{Collision, ForgedKind, Forgery, Part, Verdict};
