@@ -1,9 +1,8 @@
 -- What a first byte says is what it was made of.
-use Rattle.std.proofs.Common.{◌≡◌, ℕ, refl}
-use Rattle.std.specs.Prelude.{Bool, true, false}
+use Rattle.std.proofs.Common.{◌≡◌, refl}
 use Rattle.epic_num.specs.declared.hop.Level.{Level}
 use Rattle.epic_num.specs.declared.hop.Level.TheVariants.{L0, L1, L2, L3}
-use Rattle.epic_num.specs.Levels.{level_number, first_byte, level_of, version_of, width_of, is_tagged}
+use Rattle.epic_num.specs.Levels.{level_number, first_byte, level_of, version_of}
 
 pub level_of-first_byte_1 : (level : Level) → level_of (first_byte 1 level) ≡ level
 unfolding level_of first_byte level_number

@@ -1,4 +1,5 @@
 pub mod ChainLaws
+mod Examples
 pub mod LevelLaws
 pub mod MessageLaws
 pub mod MomentLaws

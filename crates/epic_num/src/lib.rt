@@ -28,6 +28,8 @@ mod read_parts;
 mod segment;
 mod send_error;
 mod spelling;
+#[cfg(test)]
+mod tests;
 mod turn;
 mod verdict;
 

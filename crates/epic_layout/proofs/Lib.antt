@@ -1,0 +1,11 @@
+pub mod Ranges
+pub mod Shapes
+pub mod Soundness
+pub mod Offsets
+pub mod Parsed
+pub mod Places
+pub mod Cuts
+pub mod Spelled
+pub mod Limits
+pub mod Codes
+pub mod SamePath

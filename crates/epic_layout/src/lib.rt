@@ -1,0 +1,14 @@
+//! The layout of a packet: its first fault, its parts, its one spelling.
+#![tactic(auto)]
+
+mod checking;
+mod head;
+mod packet;
+mod read;
+mod shape;
+
+pub use checking::check;
+pub use head::{HopHead, HopPlace, SegmentHead};
+pub use packet::{Packet, PacketHop, PacketSegment, Segments};
+pub use read::{bytes_at, hop_head_at, segment_head_at, u16_at, u32_at, u64_at};
+pub use shape::Shape;

@@ -1,0 +1,4 @@
+pub mod Edited
+pub mod Edits
+pub mod Fields
+pub mod Walk
