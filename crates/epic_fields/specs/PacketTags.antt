@@ -1,6 +1,5 @@
 -- The tags that a packet carries, under the keys of a topology.
 use Rattle.std.specs.Prelude.{ℕ, List}
-use Rattle.epic_cmac.specs.Cmac.{cmac}
 use Rattle.epic_num.specs.declared.hop.HopName.{HopName}
 use Rattle.epic_num.specs.declared.hop.Level.{Level}
 use Rattle.epic_num.specs.declared.hop.Level.TheVariants.{L0, L1, L2, L3}

@@ -1,6 +1,6 @@
 //! The tag of a destination field, over a packet where it lies.
 
-ghost use Rattle.std.specs.Prelude.{◌≡◌, ◌≤◌, ◌++◌, length, map, All, IsTrue};
+ghost use Rattle.std.specs.Prelude.{◌≡◌, ◌≤◌, ◌↔◌, ◌++◌, length, map, All, IsTrue};
 ghost use Rattle.std.specs.List.{flat_map, concat};
 ghost use Rattle.epic_num.specs.Levels.{is_tagged, width_of};
 ghost use Rattle.epic_num.specs.Messages.{dest_domain, host_bytes};
@@ -10,7 +10,7 @@ ghost use Rattle.epic_fields.specs.Formulas.{field_bytes};
 ghost use Rattle.epic_fields.specs.Formulas as formulas;
 
 use epic_cmac::CmacState;
-use epic_num::{Field, HostId};
+use epic_num::{Field, HostId, Level, width_of};
 use epic_view::PacketRef;
 
 /// The destination field of a packet of level 2 or 3, under the key that its destination shares with its source. At
@@ -32,6 +32,20 @@ pub fn dest_tag(key: &[u8; 16], packet: &PacketRef<'_>, updates: &[Field]) -> [u
     state.update(&packet.shape().payload.to_be_bytes());
     state.update(packet.payload());
     state.finish()
+}
+
+/// Whether the updates are those that a packet's destination field is made over: at level 3 one for each hop, as wide as
+/// the packet's fields, and at other levels none.
+#[tactic(auto, unfolding(epic_layout::specs::Spelling::update_count, epic_num::specs::Levels::level_number, epic_layout::specs::Contents::shape))]
+pub fn are_updates(packet: &PacketRef<'_>, updates: &[Field]) -> bool
+    ensures { IsTrue result ↔ ((length updates.now ≡ update_count packet.now.first (hop_count packet.now)) × All (λ u. u.width ≡ width_of packet.now.first) updates.now) }
+{
+    let width = width_of(packet.first_byte());
+    let count = match packet.shape().level {
+        Level::L3 => packet.shape().hops,
+        _ => 0,
+    };
+    updates.len() == count as usize && updates.iter().all(|u| u.width == width)
 }
 
 /// The first byte of the message of a destination field, by the packet's first byte.

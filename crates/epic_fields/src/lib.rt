@@ -6,5 +6,5 @@ mod hop;
 #[cfg(test)]
 mod tests;
 
-pub use destination::dest_tag;
+pub use destination::{are_updates, dest_tag};
 pub use hop::{authenticator, field0, field1, field23, link_tag};

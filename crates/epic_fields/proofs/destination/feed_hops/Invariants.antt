@@ -1,4 +1,4 @@
-use Rattle.std.proofs.Common.{◌≡◌, ◌++◌, take}
+use Rattle.std.proofs.Common.{◌≡◌, take}
 use Rattle.std.specs.List.{flat_map}
 use Rattle.epic_layout.specs.Spelling.{hop_bytes}
 use Rattle.epic_fields.proofs.FedLemmas.{fed}
