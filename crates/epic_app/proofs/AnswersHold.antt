@@ -11,7 +11,7 @@ use Rattle.epic_num.proofs.SameLaws.{same_body-Decides}
 use Rattle.epic_app.specs.declared.hop_file.HopCommand.{HopCommand}
 use Rattle.epic_app.specs.declared.hop_file.HopCommand.TheVariants.{Issue, Check}
 use Rattle.epic_app.specs.declared.hop_answer.HopAnswer.TheVariants.{Refused}
-use Rattle.epic_app.specs.Tags.{sigma, field0}
+use Rattle.epic_app.specs.Tags.{authenticator, field0}
 use Rattle.epic_app.specs.HopReport.{is_issue_of, accepted, answer_of, answers_after, Holds, AllHold}
 
 past_none : (k n : ℕ) → cond (ltb k n) (Some k) None ≡ None → n ≤ k
@@ -34,18 +34,18 @@ never_issued body earlier none (k, within, is) =
     cc (fails, passes)
 
 accepted_holds : (key : List ℕ) (earlier : List HopCommand) (body : Body) (field : List ℕ) (found : Option ℕ) →
-    field ≡ field0 (sigma key body) → position (is_issue_of body) earlier ≡ found → Holds key earlier (Check body field) (accepted body field found)
+    field ≡ field0 (authenticator key body) → position (is_issue_of body) earlier ≡ found → Holds key earlier (Check body field) (accepted body field found)
 accepted_holds key earlier body field (Some place) right found = (right, (place, refl, issued_at body earlier place found))
 accepted_holds key earlier body field None right found = (refl, refl, right, never_issued body earlier found)
 
-checked_holds : (key : List ℕ) (earlier : List HopCommand) (body : Body) (field : List ℕ) (right : Bool) → bytes_eq field (field0 (sigma key body)) ≡ right →
+checked_holds : (key : List ℕ) (earlier : List HopCommand) (body : Body) (field : List ℕ) (right : Bool) → bytes_eq field (field0 (authenticator key body)) ≡ right →
     Holds key earlier (Check body field) (cond right (accepted body field (position (is_issue_of body) earlier)) Refused)
-checked_holds key earlier body field true h = accepted_holds key earlier body field _ ((bytes_eq-Decides field (field0 (sigma key body))).0 h) refl
-checked_holds key earlier body field false h = λ right. cc (h, (bytes_eq-Decides field (field0 (sigma key body))).1 right)
+checked_holds key earlier body field true h = accepted_holds key earlier body field _ ((bytes_eq-Decides field (field0 (authenticator key body))).0 h) refl
+checked_holds key earlier body field false h = λ right. cc (h, (bytes_eq-Decides field (field0 (authenticator key body))).1 right)
 
 holds : (key : List ℕ) (earlier : List HopCommand) (command : HopCommand) → Holds key earlier command (answer_of key earlier command)
 holds key earlier (Issue body) = (refl, refl)
-holds key earlier (Check body field) = checked_holds key earlier body field (bytes_eq field (field0 (sigma key body))) refl
+holds key earlier (Check body field) = checked_holds key earlier body field (bytes_eq field (field0 (authenticator key body))) refl
 
 pub answers_hold : (key : List ℕ) (earlier commands : List HopCommand) → AllHold key earlier commands (answers_after key earlier commands)
 answers_hold key earlier [] = tt

@@ -3,10 +3,10 @@ use Rattle.std.proofs.Common.{◌≡◌, ◌⊎◌, ℕ, ◌<◌, true, false, L
 use Rattle.epic_app.specs.declared.end.End.{End}
 use Rattle.epic_app.specs.declared.end.End.TheVariants.{Done, BadWords, BadScript, LongScript, ReadFault, WriteFault, OutOfMemory}
 use Rattle.epic_app.specs.Request.{Request, fault_line, too_long_line}
-use Rattle.epic_app.specs.Outcome.{World, Told, Tells, EndsByFiles, ReadFails, WriteFails, MemoryEnds, NoFault, EndsWith, EndsUnder, read_line, write_line, memory_line}
+use Rattle.epic_app.specs.Outcome.{World, ErrorSink, Tells, EndsByFiles, ReadFails, WriteFails, MemoryEnds, NoFault, EndsWith, EndsUnder, read_line, write_line, memory_line}
 use Rattle.epic_app.specs.End.{status_of, line_of, HasCause, EndsAs, Performs}
 
-module _ (request : Request) (old new : World) (e f : Told) where
+module _ (request : Request) (old new : World) (e f : ErrorSink) where
   by_files : (end : End) → HasCause request old new end → Tells e f (line_of end) → status_of end < 6 →
       (line : List ℕ) × EndsByFiles request old new (status_of end) line × Tells e f line
   by_files (Done forged) cause tells below = ([], cause, tells)
@@ -70,7 +70,7 @@ module _ (request : Request) (old new : World) (e f : Told) where
     files = ended.files;
   }
 
-pub ends_under : (request : Option Request) (old new : World) (e f : Told) (end : End) → Performs request old new end → Tells e f (line_of end) → EndsUnder request old new e f (status_of end)
+pub ends_under : (request : Option Request) (old new : World) (e f : ErrorSink) (end : End) → Performs request old new end → Tells e f (line_of end) → EndsUnder request old new e f (status_of end)
 ends_under None old new e f end (refused, same) tells = record {
   is_status = ap status_of refused;
   same = same;

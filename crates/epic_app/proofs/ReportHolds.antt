@@ -9,7 +9,7 @@ use Rattle.epic_app.specs.Script.{Fault, commands_of}
 use Rattle.epic_app.specs.HopFile.{hop_rule}
 use Rattle.epic_app.specs.HopReport.{answers, is_forged}
 use Rattle.epic_app.specs.Request.{Request, Hop, Ending, hop_ending, hop_told, refused, too_long_line}
-use Rattle.epic_app.specs.Outcome.{World, Told, EndsByFiles, EndsUnder, HopHolds, HoldsUnder}
+use Rattle.epic_app.specs.Outcome.{World, ErrorSink, EndsByFiles, EndsUnder, HopHolds, HoldsUnder}
 use Rattle.epic_app.proofs.AnswersHold.{answers_hold}
 
 -- the file that decided an ending
@@ -59,7 +59,7 @@ hop_holds key name old new status line by below =
       forged = status_one (ltb 0 (count_by is_forged (answers key commands))) (list_any is_forged (answers key commands)) status (any_count is_forged (answers key commands)) (by.same_status ∙ ap (λ (e : Ending). e.status) decided);
     }
 
-pub holds_under : (request : Option Request) (old new : World) (e f : Told) (status : ℕ) → EndsUnder request old new e f status → HoldsUnder request old new status
+pub holds_under : (request : Option Request) (old new : World) (e f : ErrorSink) (status : ℕ) → EndsUnder request old new e f status → HoldsUnder request old new status
 holds_under None old new e f status ended = tt
 holds_under (Some (Hop key name)) old new e f status ended = λ below.
     let (line, by, tells) = ended.by_files (omega (arith, below)) in

@@ -22,16 +22,16 @@ pub record World : Type 0 where
 abbrev pub world : Option Files → (List ℕ → ℕ) → (List ℕ → ℕ) → Option (List ℕ) → ℕ → World
 world contents reads writes written faults = record { contents = contents; reads = reads; writes = writes; written = written; faults = faults }
 
--- a sink
-pub record Told : Type 0 where
+-- the sink of errors
+pub record ErrorSink : Type 0 where
   pub written : Option (List ℕ)
   pub faults : ℕ
 
-abbrev pub told : Option (List ℕ) → ℕ → Told
-told written faults = record { written = written; faults = faults }
+abbrev pub error_sink : Option (List ℕ) → ℕ → ErrorSink
+error_sink written faults = record { written = written; faults = faults }
 
 -- a line was written, or a front of it where the count of faults rose
-abbrev pub Tells : Told → Told → List ℕ → Type 0
+abbrev pub Tells : ErrorSink → ErrorSink → List ℕ → Type 0
 Tells old new line = Appends old.written new.written line ⊎ (AppendsFront old.written new.written line × Rose old.faults new.faults)
 
 -- contents as the store tells them; any where it tells none
@@ -113,7 +113,7 @@ abbrev pub words_line : List ℕ
 words_line = codes "epic: words\n"
 
 -- a command ended with this status, the errors going from e to f
-pub record EndsWith (request : Request) (old new : World) (e f : Told) (status : ℕ) : Type 0 where
+pub record EndsWith (request : Request) (old new : World) (e f : ErrorSink) (status : ℕ) : Type 0 where
   pub is_status : IsTrue (list_any (λ s. s == status) (statuses_of request))
   pub by_files : status < 6 → (line : List ℕ) × EndsByFiles request old new status line × Tells e f line
   pub read : status ≡ 6 → (name : List ℕ) × ReadFails request old new name × Tells e f (read_line name)
@@ -125,17 +125,17 @@ pub record EndsWith (request : Request) (old new : World) (e f : Told) (status :
   pub files : FilesStay request old.contents new.contents
 
 -- the words are no command
-pub record RefusesWords (old new : World) (e f : Told) (status : ℕ) : Type 0 where
+pub record RefusesWords (old new : World) (e f : ErrorSink) (status : ℕ) : Type 0 where
   pub is_status : status ≡ 2
   pub same : new ≡ old
   pub line : Tells e f words_line
 
-abbrev pub EndsUnder : Option Request → World → World → Told → Told → ℕ → Type 0
+abbrev pub EndsUnder : Option Request → World → World → ErrorSink → ErrorSink → ℕ → Type 0
 EndsUnder None old new e f status = RefusesWords old new e f status
 EndsUnder (Some request) old new e f status = EndsWith request old new e f status
 
 -- the words of a command line, the world and the errors before and after it, and its status
-abbrev pub Ends : List (List ℕ) → World → World → Told → Told → ℕ → Type 0
+abbrev pub Ends : List (List ℕ) → World → World → ErrorSink → ErrorSink → ℕ → Type 0
 Ends words old new e f status = EndsUnder (request_of words) old new e f status
 
 -- ---- what the report of a run that was done claims

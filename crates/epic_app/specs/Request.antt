@@ -10,7 +10,7 @@ use Rattle.epic_app.specs.declared.script.ScriptKind.{ScriptKind}
 use Rattle.epic_app.specs.declared.script.ScriptKind.TheVariants.{NotText, UnknownVerb, WordCount, BadWord, TooMany}
 use Rattle.epic_app.specs.Script.{Fault, commands_of}
 use Rattle.epic_app.specs.HopFile.{hop_rule}
-use Rattle.epic_app.specs.HopReport.{◌⊕◌, answers, is_forged, report_text}
+use Rattle.epic_app.specs.HopReport.{◌⊕◌, answers, hop_report, is_forged}
 
 pub data Request : Type 0 where
   -- `hop KEY FILE`: the bytes of the key, the name of the file
@@ -70,7 +70,7 @@ refused line = record { status = 4; report = []; line = line }
 abbrev pub hop_told : List ℕ → Result (List HopCommand) Fault → Ending
 hop_told key (Ok commands) = record {
   status = if nat_lt 0 (count_by is_forged (answers key commands)) then 1 else 0;
-  report = report_text (answers key commands);
+  report = hop_report key commands;
   line = [];
 }
 hop_told key (Err (line, kind)) = refused (fault_line line kind)

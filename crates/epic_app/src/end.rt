@@ -5,7 +5,7 @@ ghost use Rattle.epic_ports.specs.Faults.{FailsOnlyBy};
 ghost use Rattle.epic_ports.specs.Written.{Appends, AppendsFront};
 ghost use Rattle.epic_app.specs.declared.script.ScriptKind.TheVariants.{BadWord};
 ghost use Rattle.epic_app.specs.End.{line_of, status_of};
-ghost use Rattle.epic_app.specs.Outcome.{Tells, told};
+ghost use Rattle.epic_app.specs.Outcome.{Tells, error_sink};
 ghost use Rattle.epic_app.specs.Request.{fault_line, named_line};
 
 use crate::script::ScriptKind;
@@ -132,7 +132,7 @@ fn write_end<E: Sink>(err: &mut E, end: &End<'_>) -> Result<(), PortError>
 
 /// Tells `end` to the errors. No memory is taken, and a failure of the errors changes nothing else.
 pub fn tell<E: Sink>(err: &mut E, end: &End<'_>)
-    ensures { Tells (told (E.written err.old) (E.faults err.old)) (told (E.written err.new) (E.faults err.new)) (line_of end.now) }
+    ensures { Tells (error_sink (E.written err.old) (E.faults err.old)) (error_sink (E.written err.new) (E.faults err.new)) (line_of end.now) }
 {
     let _ = write_end(err, end);
 }

@@ -4,7 +4,7 @@ ghost use Rattle.std.specs.Prelude.{◌≡◌, ◌+◌, ◌^◌, ◌<◌, ◌≤
 ghost use Rattle.std.specs.String.{string_bytes};
 ghost use Rattle.epic_ports.specs.Written.{Appends, AppendsFront};
 ghost use Rattle.epic_app.specs.declared.hop_answer.HopAnswer.TheVariants.{Issued, Forged};
-ghost use Rattle.epic_app.specs.HopReport.{answers, end_text, is_accept, is_forged, line_text, report_text};
+ghost use Rattle.epic_app.specs.HopReport.{answers, end_text, is_accept, hop_report, is_forged, line_text};
 ghost use Rattle.epic_app.specs.Writing.{WriteFailsBy};
 
 use crate::hop_answer::{HopAnswer, answer};
@@ -112,9 +112,9 @@ pub fn write_report<O: Sink>(
     out: &mut O,
 ) -> Result<bool, PortError>
     requires { length commands.now < 2 ^ 32 }
-    ensures ok { OnOk result (Appends (O.written out.old) (O.written out.new) (report_text (answers key.now commands.now))) }
+    ensures ok { OnOk result (Appends (O.written out.old) (O.written out.new) (hop_report key.now commands.now)) }
     ensures forged { IfOk result (λ forged. forged ≡ nat_lt 0 (count_by is_forged (answers key.now commands.now))) }
-    ensures err { OnErr result (AppendsFront (O.written out.old) (O.written out.new) (report_text (answers key.now commands.now))) }
+    ensures err { OnErr result (AppendsFront (O.written out.old) (O.written out.new) (hop_report key.now commands.now)) }
     ensures later { O.faults out.old ≤ O.faults out.new }
     ensures cause { WriteFailsBy (O.faults out.old) (O.faults out.new) result }
 {

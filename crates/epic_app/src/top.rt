@@ -3,7 +3,7 @@
 ghost use Rattle.std.specs.Prelude.{map};
 ghost use Rattle.std.specs.String.{string_bytes};
 ghost use Rattle.epic_app.specs.End.{Performs};
-ghost use Rattle.epic_app.specs.Outcome.{Ends, ReportHolds, told, world};
+ghost use Rattle.epic_app.specs.Outcome.{Ends, ReportHolds, error_sink, world};
 ghost use Rattle.epic_app.specs.Request.{request_of};
 
 use crate::end::{End, tell};
@@ -53,8 +53,8 @@ pub fn epic<S: Store, O: Sink, E: Sink>(
     ensures ends { Ends (map string_bytes words.now)
         (world (S.contents store.old) (S.reads store.old) (S.writes store.old) (O.written out.old) (O.faults out.old))
         (world (S.contents store.new) (S.reads store.new) (S.writes store.new) (O.written out.new) (O.faults out.new))
-        (told (E.written err.old) (E.faults err.old))
-        (told (E.written err.new) (E.faults err.new))
+        (error_sink (E.written err.old) (E.faults err.old))
+        (error_sink (E.written err.new) (E.faults err.new))
         result }
 {
     let end = perform(alloc, words, store, out);
