@@ -6,7 +6,7 @@ use Rattle.epic_num.proofs.Fronts.{HasText}
 use Rattle.epic_num.proofs.Misspelt.{IsMisspelt-option_map, after_misspelt, before_misspelt, unmarked}
 use Rattle.epic_num.proofs.OneSpelling.{as_unmarked, number_has_text}
 use Rattle.epic_num.proofs.Parts.{parted_both}
-use Rattle.epic_num.proofs.read.read_host.Goals as goal
+use Rattle.epic_num.proofs.read_parts.host.Goals as goal
 
 abbrev host_at : ℕ × ℕ → HostId
 host_at p = record { asn = record { 0 = p.0 }; host = p.1 }
