@@ -24,11 +24,13 @@ accepted body field None = Forged body field
 abbrev pub answer_of : List ℕ → List HopCommand → HopCommand → HopAnswer
 answer_of key earlier (Issue body) = Issued (authenticator key body) (link_tag key body)
 answer_of key earlier (Check body field) =
-    if bytes_eq field (field0 (authenticator key body)) then accepted body field (position (is_issue_of body) earlier) else Refused
+    if bytes_eq field (field0 (authenticator key body)) then accepted body field (position (is_issue_of body) earlier)
+    else Refused
 
 abbrev pub answers_after : List ℕ → List HopCommand → List HopCommand → List HopAnswer
 answers_after key earlier [] = []
-answers_after key earlier (command ∷ more) = answer_of key earlier command ∷ answers_after key (earlier ++ command ∷ []) more
+answers_after key earlier (command ∷ more) =
+    answer_of key earlier command ∷ answers_after key (earlier ++ command ∷ []) more
 
 -- the answers to all commands, in order
 abbrev pub answers : List ℕ → List HopCommand → List HopAnswer
@@ -43,11 +45,13 @@ a ⊕ b = a ++ b
 
 -- the words of an answer, to the end of its line
 abbrev pub answer_text : HopAnswer → List ℕ
-answer_text (Issued tag link) = codes "issue " ⊕ (encode_lower tag ⊕ (codes " " ⊕ (encode_lower link ⊕ codes "\n")))
+answer_text (Issued tag link) =
+    codes "issue " ⊕ (encode_lower tag ⊕ (codes " " ⊕ (encode_lower link ⊕ codes "\n")))
 answer_text Refused = codes "refuse\n"
 answer_text (Proved issue) = codes "accept proved " ⊕ (decimal issue ⊕ codes "\n")
 answer_text (Forged body field) =
-    codes "accept forged " ⊕ (encode_lower (authenticator_message body) ⊕ (codes " " ⊕ (encode_lower field ⊕ codes "\n")))
+    codes "accept forged "
+    ⊕ (encode_lower (authenticator_message body) ⊕ (codes " " ⊕ (encode_lower field ⊕ codes "\n")))
 
 -- a line begins with the number of its command
 abbrev pub line_text : ℕ → HopAnswer → List ℕ
@@ -72,10 +76,12 @@ is_forged (Forged body field) = true
 -- the last line counts the commands, the accepted checks and the forged ones among these
 abbrev pub end_text : ℕ → ℕ → ℕ → List ℕ
 end_text commands accepted forged =
-    codes "end " ⊕ (decimal commands ⊕ (codes " accepted " ⊕ (decimal accepted ⊕ (codes " forged " ⊕ (decimal forged ⊕ codes "\n")))))
+    codes "end "
+    ⊕ (decimal commands ⊕ (codes " accepted " ⊕ (decimal accepted ⊕ (codes " forged " ⊕ (decimal forged ⊕ codes "\n")))))
 
 abbrev pub report_text : List HopAnswer → List ℕ
-report_text given = lines_text 1 given ++ end_text (length given) (count_by is_accept given) (count_by is_forged given)
+report_text given =
+    lines_text 1 given ++ end_text (length given) (count_by is_accept given) (count_by is_forged given)
 
 -- the report of a file's commands under a key
 abbrev pub hop_report : List ℕ → List HopCommand → List ℕ
@@ -83,19 +89,23 @@ hop_report key commands = report_text (answers key commands)
 
 -- ---- what an answer claims
 
--- an authenticator and a link tag are the AS's own over that body; a refused field is wrong; a proved one is right, and the
--- command with that number is an earlier issue of that body; a forged one is right, and no earlier command issued that body
+-- an authenticator and a link tag are the AS's own over that body; a refused field is wrong; a proved one is right,
+-- and the command with that number is an earlier issue of that body; a forged one is right, and no earlier command
+-- issued that body
 abbrev pub Holds : List ℕ → List HopCommand → HopCommand → HopAnswer → Type 0
 Holds key earlier (Issue body) (Issued tag link) = (tag ≡ authenticator key body) × (link ≡ link_tag key body)
 Holds key earlier (Check body field) Refused = field ≢ field0 (authenticator key body)
 Holds key earlier (Check body field) (Proved issue) =
-    (field ≡ field0 (authenticator key body)) × ((place : ℕ) × (issue ≡ place + 1) × (slice_get earlier place ≡ Some (Issue body)))
+    (field ≡ field0 (authenticator key body))
+    × ((place : ℕ) × (issue ≡ place + 1) × (slice_get earlier place ≡ Some (Issue body)))
 Holds key earlier (Check body field) (Forged told tag) =
-    (told ≡ body) × (tag ≡ field) × (field ≡ field0 (authenticator key body)) × ¬ Contains earlier (Issue body)
+    (told ≡ body) × (tag ≡ field) × (field ≡ field0 (authenticator key body))
+    × ¬ Contains earlier (Issue body)
 Holds key earlier command answer = ⊥
 
 -- each command has its answer, which holds
 abbrev pub AllHold : List ℕ → List HopCommand → List HopCommand → List HopAnswer → Type 0
 AllHold key earlier [] [] = Unit {0}
-AllHold key earlier (command ∷ commands) (answer ∷ more) = Holds key earlier command answer × AllHold key (earlier ++ command ∷ []) commands more
+AllHold key earlier (command ∷ commands) (answer ∷ more) =
+    Holds key earlier command answer × AllHold key (earlier ++ command ∷ []) commands more
 AllHold key earlier commands given = ⊥

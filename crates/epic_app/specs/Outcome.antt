@@ -20,7 +20,13 @@ pub record World : Type 0 where
   pub faults : ℕ
 
 abbrev pub world : Option Files → (List ℕ → ℕ) → (List ℕ → ℕ) → Option (List ℕ) → ℕ → World
-world contents reads writes written faults = record { contents = contents; reads = reads; writes = writes; written = written; faults = faults }
+world contents reads writes written faults = record {
+  contents = contents;
+  reads = reads;
+  writes = writes;
+  written = written;
+  faults = faults;
+}
 
 -- the sink of errors
 pub record ErrorSink : Type 0 where
@@ -32,7 +38,8 @@ error_sink written faults = record { written = written; faults = faults }
 
 -- a line was written, or a front of it where the count of faults rose
 abbrev pub Tells : ErrorSink → ErrorSink → List ℕ → Type 0
-Tells old new line = Appends old.written new.written line ⊎ (AppendsFront old.written new.written line × Rose old.faults new.faults)
+Tells old new line =
+    Appends old.written new.written line ⊎ (AppendsFront old.written new.written line × Rose old.faults new.faults)
 
 -- contents as the store tells them; any where it tells none
 abbrev pub AsTold : Option Files → Files → Type 0
@@ -64,7 +71,8 @@ pub record ReadFails (request : Request) (old new : World) (name : List ℕ) : T
 -- a write failed, of the output or of a file that is written
 abbrev pub WriteRose : Request → World → World → Type 0
 WriteRose request old new =
-    Rose old.faults new.faults ⊎ ((name : List ℕ) × Contains (writes_of request) name × Rose (old.writes name) (new.writes name))
+    Rose old.faults new.faults
+    ⊎ ((name : List ℕ) × Contains (writes_of request) name × Rose (old.writes name) (new.writes name))
 
 -- the files were read, and refused by no fault; a write failed, and a front of the report was written
 pub record WriteFails (request : Request) (old new : World) : Type 0 where
@@ -91,7 +99,8 @@ pub record CountsStay (request : Request) (old new : World) : Type 0 where
 abbrev pub FilesStay : Request → Option Files → Option Files → Type 0
 FilesStay request None new = ⊤
 FilesStay request (Some old) None = ⊥
-FilesStay request (Some old) (Some new) = (name : List ℕ) → ¬ Contains (writes_of request) name → new name ≡ old name
+FilesStay request (Some old) (Some new) =
+    (name : List ℕ) → ¬ Contains (writes_of request) name → new name ≡ old name
 
 -- no read of a file that is read and no write of the output or of a file that is written failed
 pub record NoFault (request : Request) (old new : World) : Type 0 where
@@ -140,7 +149,7 @@ Ends words old new e f status = EndsUnder (request_of words) old new e f status
 
 -- ---- what the report of a run that was done claims
 
--- the file holds commands; the lines are those of answers, each of which holds; and status 1 tells that one is forged
+-- the file holds commands; the lines are those of answers, each of which holds; status 1 tells that one is forged
 pub record HopHolds (key name : List ℕ) (old new : World) (status : ℕ) : Type 0 where
   pub files : Files
   pub as_told : AsTold old.contents files

@@ -1,4 +1,5 @@
--- What the words ask for, and what the files that it reads say of its end. A new command adds a case to each definition.
+-- What the words ask for, and what the files that it reads say of its end. A new command adds a case to each
+-- definition.
 use Rattle.std.specs.Prelude.{ℕ, if◌then◌else◌, nat_lt, List, [], ◌∷◌, length, count_by, Option, Some, None, Result, Ok, Err, codes, bytes_eq, decimal}
 use Rattle.std.specs.Option.{option_map}
 use Rattle.hex.specs.Hex.{decode_sized}
@@ -21,9 +22,14 @@ hop_request name (Ok key) = Some (Hop key name)
 hop_request name (Err error) = None
 
 -- the words of `hop`: a key of 16 bytes in hexadecimal digits, and a name
+abbrev pub hop_of : List (List ℕ) → Option Request
+hop_of (command ∷ key ∷ name ∷ []) =
+    if bytes_eq command (codes "hop") then hop_request name (decode_sized key 16) else None
+hop_of words = None
+
+-- what the words ask for; none where they are no command
 abbrev pub request_of : List (List ℕ) → Option Request
-request_of (command ∷ key ∷ name ∷ []) = if bytes_eq command (codes "hop") then hop_request name (decode_sized key 16) else None
-request_of words = None
+request_of words = hop_of words
 
 -- the names of the files that are read
 abbrev pub reads_of : Request → List (List ℕ)
@@ -76,7 +82,8 @@ hop_told key (Ok commands) = record {
 hop_told key (Err (line, kind)) = refused (fault_line line kind)
 
 abbrev pub hop_ending : List ℕ → List ℕ → Ending
-hop_ending key file = if nat_lt FILE_LIMIT (length file) then refused too_long_line else hop_told key (commands_of hop_rule file)
+hop_ending key file =
+    if nat_lt FILE_LIMIT (length file) then refused too_long_line else hop_told key (commands_of hop_rule file)
 
 -- the end that the contents of the files decide; none where a file isn't there
 abbrev pub ending_of : Files → Request → Option Ending
