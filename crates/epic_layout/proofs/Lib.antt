@@ -3,9 +3,12 @@ pub mod Shapes
 pub mod Soundness
 pub mod Offsets
 pub mod Parsed
-pub mod Places
+pub mod HopPlaces
 pub mod Cuts
 pub mod Spelled
 pub mod Limits
 pub mod Codes
 pub mod SamePath
+pub mod ReadBack
+pub mod Faultless
+pub mod OneSpelling

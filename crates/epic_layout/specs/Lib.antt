@@ -4,3 +4,4 @@ pub mod Contents
 pub mod Layout
 pub mod Sound
 pub mod Spelling
+pub mod Laws
