@@ -12,3 +12,8 @@ pub mod SamePath
 pub mod ReadBack
 pub mod Faultless
 pub mod OneSpelling
+pub mod AllHops
+pub mod Decoded
+pub mod Fields
+pub mod Encoded
+pub mod SamePacket

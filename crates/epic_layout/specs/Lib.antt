@@ -5,3 +5,5 @@ pub mod Layout
 pub mod Sound
 pub mod Spelling
 pub mod Laws
+pub mod Packets
+pub mod Decoding

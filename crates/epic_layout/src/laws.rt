@@ -2,13 +2,15 @@
 ghost use Rattle.std.specs.Prelude.{List};
 ghost use Rattle.epic_layout.specs.declared.head.SegmentHead.{SegmentHead};
 ghost use Rattle.epic_layout.specs.Laws.{PacketsAreSpelled, SpellingsAreOne, PacketsAreOne, PathsAreOne, PlacesAreOne, NeighboursFollow};
+ghost use Rattle.epic_layout.specs.Packets.{ValidPacketsAreOne};
 ghost use Rattle.epic_layout.specs.Spelling.{DestMessagesDiffer, KindsDiffer};
 
-/// A packet has one spelling, and bytes spell at most one packet.
+/// A packet has one spelling, and bytes spell at most one packet, so that decoding gives back what was encoded.
 pub fn spellings()
     ensures spelled { PacketsAreSpelled }
     ensures one_spelling { SpellingsAreOne }
     ensures one_packet { PacketsAreOne }
+    ensures one_value { ValidPacketsAreOne }
 {}
 
 /// Equal path bytes are those of the same hops.
