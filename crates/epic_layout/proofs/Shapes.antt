@@ -31,3 +31,17 @@ shape_parse b n h = λ i. record { version = version_of (byte b 0); level = leve
 pub shape_sizes : (b : List ℕ) (s : Shape) → s ≡ shape (parse b) → (s.segments ≡ byte b 6) × (s.hops ≡ hops_in b) × (s.header ≡ header_len_in b)
 unfolding shape
 shape_sizes b s e = (ap (λ t. t.segments) e ∙ segments_parse b, ap (λ t. t.hops) e ∙ hop_count_parse b, ap (λ t. t.header) e ∙ header_len_parse b)
+
+pub shape_header : (b : List ℕ) (s : Shape) → s ≡ shape (parse b) → s.header ≡ header_len_in b
+unfolding shape
+shape_header b s e = ap (λ t. t.header) e ∙ header_len_parse b
+
+pub shape_version : (b : List ℕ) (s : Shape) → s ≡ shape (parse b) → s.version ≡ version_of (byte b 0)
+unfolding shape parse
+shape_version b s e = ap (λ t. t.version) e
+
+pub shape_level : (b : List ℕ) (s : Shape) → s ≡ shape (parse b) → s.level ≡ level_of (byte b 0)
+unfolding shape parse
+shape_level b s e = ap (λ t. t.level) e
+
+pub ruleset sizes = (shape_header, shape_version, shape_level)

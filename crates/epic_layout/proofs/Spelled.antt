@@ -97,7 +97,7 @@ segments_spelled b bytes s =
     flat_map-map segment_bytes (segment_at b) (range_with_len 0 (byte b 6))
     ∙ rows b (λ i. segment_bytes (segment_at b i)) 40 8 (byte b 6) (λ i h. segment_bytes-at b i bytes s h)
 
-zip-maps : {X Y Z : Type 0} (f : X → Y) (g : X → Z) (xs : List X) → zip (map f xs) (map g xs) ≡ map (λ x. (f x, g x)) xs
+pub zip-maps : {X Y Z : Type 0} (f : X → Y) (g : X → Z) (xs : List X) → zip (map f xs) (map g xs) ≡ map (λ x. (f x, g x)) xs
 zip-maps f g [] = refl
 zip-maps f g (x ∷ xs) = ap (λ ys. (f x, g x) ∷ ys) (zip-maps f g xs)
 

@@ -1,5 +1,5 @@
 -- What a packet says, apart from how its bytes spell it.
-use Rattle.std.specs.Prelude.{◌≡◌, ℕ, ◌+◌, ◌-◌, ◌*◌, ◌++◌, ◌<◌, ◌≤◌, ◌^◌, true, false, List, [], length, replicate, slice_index_or, slice_set, if◌then◌else◌}
+use Rattle.std.specs.Prelude.{◌≡◌, ℕ, ◌+◌, ◌-◌, ◌*◌, ◌++◌, ◌<◌, ◌≤◌, ◌^◌, true, false, List, [], length, take, replicate, slice_index_or, slice_set, if◌then◌else◌}
 use Rattle.std.specs.List.{All}
 use Rattle.epic_num.specs.declared.hop.Field.{Field}
 use Rattle.epic_num.specs.declared.name.HostId.{HostId}
@@ -34,6 +34,10 @@ field p j = slice_index_or p.fields j []
 -- a field as a value of six bytes, which are 0 past its width
 unfoldable pub as_field : List ℕ → Field
 as_field v = record { bytes = v ++ replicate (6 - length v) 0; width = length v }
+
+-- the bytes of such a value that count
+abbrev pub field_bytes : Field → List ℕ
+field_bytes f = take f.width f.bytes
 
 -- ---- sizes
 

@@ -4,3 +4,6 @@ pub mod Contents
 pub mod Layout
 pub mod Sound
 pub mod Spelling
+pub mod Laws
+pub mod Packets
+pub mod Decoding

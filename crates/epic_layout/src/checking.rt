@@ -61,7 +61,7 @@ fn heads_of(bytes: &[u8], count: u8) -> Heads
 
 /// The bytes before the payload of a packet with this first byte and these numbers of segments and hops.
 #[tactic(auto, unfolding(crate::specs::Contents::dest_len))]
-fn header_len_of(first: u8, segments: u8, hops: u16) -> u16
+pub(crate) fn header_len_of(first: u8, segments: u8, hops: u16) -> u16
     requires few_segments { segments ≤ 3 }
     requires few_hops { hops ≤ 32 }
     ensures { result ≡ segment_offset segments + (13 + levels.width_of first) * hops + dest_len first }

@@ -12,6 +12,7 @@ use Rattle.epic_layout.specs.Route.{hops_of, no_segment, no_hop}
 use Rattle.epic_layout.specs.Contents.{segment_offset, dest_len}
 use Rattle.epic_layout.specs.Layout.{parse, route_in, segments_in, segment_at, hops_in, hop_offset, hop_head_at, hop_at, field_offset, field_at, dest_offset, dest_field_in, header_len_in, host_at, any_segment, is_reserved, is_miscounted}
 use Rattle.epic_layout.specs.Sound.{IsSound}
+use Rattle.epic_layout.proofs.Ranges.{map_range_same}
 use Rattle.epic_layout.proofs.Cuts.{byte-piece, length-piece}
 use Rattle.epic_layout.proofs.Spelled.{no_segment_meets}
 use Rattle.epic_layout.proofs.Limits.{All-range}
@@ -47,12 +48,6 @@ drop_outside b c at w x s o =
 pub number_outside : (wd : Width) (b c : List ℕ) (at w x : ℕ) → SameOutside b c at w → IsOutside at w x (byte_len wd) → x + byte_len wd ≤ length b → number wd c x ≡ number wd b x
 unfolding number
 number_outside wd b c at w x s out there = ap (from_be_bytes wd) (piece_outside b c at w x (byte_len wd) s out there)
-
--- two lists made by functions that agree
-pub map_range_same : {X : Type 0} (d : X) (f g : ℕ → X) (n : ℕ) → ((k : ℕ) → k < n → f k ≡ g k) → map f (range_with_len 0 n) ≡ map g (range_with_len 0 n)
-map_range_same d f g n same =
-    fill_by_all g (map f (range_with_len 0 n)) n d (length-map-range_with_len f 0 n)
-    (λ k h. get_or-map-range_with_len f 0 n k k d h (zero-add k) ∙ same k h)
 
 -- ---- the header
 

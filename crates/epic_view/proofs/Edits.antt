@@ -12,11 +12,12 @@ use Rattle.epic_layout.specs.Pieces.{byte, piece}
 use Rattle.epic_layout.specs.Contents.{with_field, with_dest_field, segment_offset, dest_len, header_len, shape}
 use Rattle.epic_layout.specs.Layout.{parse, hops_in, hop_len, hop_offset, hop_head_at, field_offset, field_at, dest_offset, dest_field_in, header_len_in}
 use Rattle.epic_layout.specs.Sound.{IsSound}
+use Rattle.epic_layout.proofs.Ranges.{map_range_same}
 use Rattle.epic_layout.proofs.Offsets.{hop_within, hop_there}
 use Rattle.epic_view.specs.declared.frame.Frame.{Frame}
 use Rattle.epic_view.specs.View.{IsView}
 use Rattle.epic_view.specs.Pieces.{with_piece}
-use Rattle.epic_view.proofs.Edited.{SameOutside, IsOutside, EditsBody, piece_outside, byte_outside, number_outside, drop_outside, map_range_same, sound_kept, parse_edited, first_same, count_same, hops_same, header_len_same}
+use Rattle.epic_view.proofs.Edited.{SameOutside, IsOutside, EditsBody, piece_outside, byte_outside, number_outside, drop_outside, sound_kept, parse_edited, first_same, count_same, hops_same, header_len_same}
 
 -- a view stays one after an edit that keeps the sizes
 pub view_kept : (b c : List ℕ) (at w : ℕ) (frame : Frame) → IsView b frame → EditsBody b c at w → byte c 7 ≤ hops_in b → shape (parse c) ≡ shape (parse b) → IsView c frame

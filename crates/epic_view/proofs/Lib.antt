@@ -1,4 +1,3 @@
 pub mod Edited
 pub mod Edits
-pub mod Fields
 pub mod Walk

@@ -6,7 +6,7 @@ use Rattle.epic_layout.specs.Pieces.{byte}
 use Rattle.epic_layout.specs.Route.{place_from, hops_of, no_segment}
 use Rattle.epic_layout.specs.Layout.{segments_in, segment_at}
 use Rattle.epic_layout.specs.declared.head.SegmentHead.{SegmentHead}
-use Rattle.epic_layout.proofs.Places.{hops_of-cons, place_from_here, place_from_later}
+use Rattle.epic_layout.proofs.HopPlaces.{hops_of-cons, place_from_here, place_from_later}
 
 pub length-segments : (b : List ℕ) → length (segments_in b) ≡ byte b 6
 unfolding segments_in

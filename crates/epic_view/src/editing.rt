@@ -5,7 +5,8 @@ ghost use Rattle.epic_layout.specs.Pieces.{byte};
 ghost use Rattle.epic_layout.specs.Contents.{with_field, with_dest_field, advanced};
 ghost use Rattle.epic_layout.specs.Layout.{parse, hops_in, field_offset, dest_offset};
 ghost use Rattle.epic_view.specs.View.{IsView};
-ghost use Rattle.epic_view.specs.Pieces.{with_piece, field_bytes};
+ghost use Rattle.epic_layout.specs.Contents.{field_bytes};
+ghost use Rattle.epic_view.specs.Pieces.{with_piece};
 
 use crate::frame::{Frame, hop_at};
 use epic_num::Field;
@@ -34,7 +35,7 @@ pub fn set_field(bytes: &mut [u8], frame: Frame, hop: u8, field: &Field)
 }
 
 /// Puts a destination field in the place of the packet's, which has level 2 or 3.
-#[tactic(auto, using(crate::proofs::Fields::dest_fields))]
+#[tactic(auto, using(epic_layout::proofs::Fields::dest_fields))]
 pub fn set_dest_field(bytes: &mut [u8], frame: Frame, field: &[u8; 16])
     requires view { IsView bytes.old frame }
     requires tagged { is_tagged (byte bytes.old 0) ≡ true }

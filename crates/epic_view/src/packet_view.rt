@@ -18,10 +18,10 @@ impl<'a> PacketView<'a> {
     ghost use Rattle.std.specs.Prelude.{◌≡◌, ◌+◌, ◌<◌, ◌≤◌, true, slice_set};
     ghost use Rattle.epic_num.specs.Levels.{width_of, is_first_byte, is_tagged};
     ghost use Rattle.epic_layout.specs.Contents as contents;
-    ghost use Rattle.epic_layout.specs.Contents.{hop_count};
+    ghost use Rattle.epic_layout.specs.Contents.{hop_count, field_bytes};
     ghost use Rattle.epic_layout.specs.Layout.{parse, fault, or_fault, field_offset, dest_offset};
     ghost use Rattle.epic_view.specs.Editing.{bytes_of, packet_of, opened_packet};
-    ghost use Rattle.epic_view.specs.Pieces.{with_piece, field_bytes};
+    ghost use Rattle.epic_view.specs.Pieces.{with_piece};
 
     /// The view of bytes that `check` found to have this shape.
     #[tactic(auto, using(epic_layout::proofs::Soundness::checked))]

@@ -46,7 +46,7 @@ pub fn body(bytes: &[u8], frame: Frame, hop: u8) -> Body
 }
 
 /// The hop's field.
-#[tactic(auto, using(crate::proofs::Fields::fields))]
+#[tactic(auto, using(epic_layout::proofs::Fields::fields))]
 pub fn field(bytes: &[u8], frame: Frame, hop: u8) -> Field
     requires view { IsView bytes.now frame }
     requires there { hop < hops_in bytes.now }
@@ -98,7 +98,7 @@ pub fn egress(bytes: &[u8], frame: Frame, hop: u8) -> u16
 }
 
 /// The destination field, and zeros at levels 0 and 1.
-#[tactic(auto, using(crate::proofs::Fields::dest_fields))]
+#[tactic(auto, using(epic_layout::proofs::Fields::dest_fields))]
 pub fn dest_field(bytes: &[u8], frame: Frame) -> [u8; 16]
     requires { IsView bytes.now frame }
     ensures { result ≡ dest_field_in bytes.now }

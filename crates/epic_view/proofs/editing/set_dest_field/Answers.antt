@@ -1,7 +1,7 @@
 use Rattle.std.proofs.Common.{◌≡◌, ◌-◌, length, ap, ◌∙◌, arith, rules}
 use Rattle.epic_layout.specs.Layout.{dest_offset}
 use Rattle.epic_view.specs.Pieces.{with_piece}
-use Rattle.epic_view.proofs.Fields.{header_tagged}
+use Rattle.epic_layout.proofs.Fields.{header_tagged}
 use Rattle.epic_view.proofs.Edits.{dest_whole}
 use Rattle.epic_view.proofs.editing.set_dest_field.Goals as goal
 

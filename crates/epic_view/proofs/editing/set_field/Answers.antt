@@ -4,7 +4,8 @@ use Rattle.epic_layout.specs.Pieces.{byte}
 use Rattle.epic_layout.specs.Layout.{field_offset}
 use Rattle.epic_num.specs.Levels.{width_of}
 use Rattle.epic_layout.proofs.Offsets.{width_most}
-use Rattle.epic_view.specs.Pieces.{with_piece, field_bytes}
+use Rattle.epic_layout.specs.Contents.{field_bytes}
+use Rattle.epic_view.specs.Pieces.{with_piece}
 use Rattle.epic_view.proofs.Edits.{field_whole}
 use Rattle.epic_view.proofs.editing.set_field.Goals as goal
 
