@@ -11,7 +11,7 @@ use Rattle.epic_num.proofs.SameLaws.{same_body-Decides}
 use Rattle.epic_app.specs.declared.hop_file.HopCommand.{HopCommand}
 use Rattle.epic_app.specs.declared.hop_file.HopCommand.TheVariants.{Issue, Check}
 use Rattle.epic_app.specs.declared.hop_answer.HopAnswer.TheVariants.{Refused}
-use Rattle.epic_app.specs.Tags.{sigma, field0}
+use Rattle.epic_app.specs.Tags.{authenticator, field0}
 use Rattle.epic_app.specs.HopReport.{is_issue_of, accepted, answer_of, answers_after, Holds, AllHold}
 
 past_none : (k n : ℕ) → cond (ltb k n) (Some k) None ≡ None → n ≤ k
@@ -21,12 +21,14 @@ is_issue : (body : Body) (command : HopCommand) → is_issue_of body command ≡
 is_issue body (Issue issued) h = ap Issue ((same_body-Decides issued body).0 h)
 is_issue body (Check checked field) h = cc
 
-issued_at : (body : Body) (earlier : List HopCommand) (place : ℕ) → position (is_issue_of body) earlier ≡ Some place → slice_get earlier place ≡ Some (Issue body)
+issued_at : (body : Body) (earlier : List HopCommand) (place : ℕ) →
+    position (is_issue_of body) earlier ≡ Some place → slice_get earlier place ≡ Some (Issue body)
 issued_at body earlier place found =
     let f = position-Some (is_issue_of body) earlier place (Issue body) found in
     slice_get-get_or earlier place (Issue body) f.0 ∙ ap Some (is_issue body (get_or earlier place (Issue body)) f.1)
 
-never_issued : (body : Body) (earlier : List HopCommand) → position (is_issue_of body) earlier ≡ None → ¬ Contains earlier (Issue body)
+never_issued : (body : Body) (earlier : List HopCommand) → position (is_issue_of body) earlier ≡ None →
+    ¬ Contains earlier (Issue body)
 never_issued body earlier none (k, within, is) =
     let past : length earlier ≤ position_or_len (is_issue_of body) earlier = past_none _ _ none in
     let fails = fails_before_first (is_issue_of body) earlier k (Issue body) (omega arith) in
@@ -34,19 +36,22 @@ never_issued body earlier none (k, within, is) =
     cc (fails, passes)
 
 accepted_holds : (key : List ℕ) (earlier : List HopCommand) (body : Body) (field : List ℕ) (found : Option ℕ) →
-    field ≡ field0 (sigma key body) → position (is_issue_of body) earlier ≡ found → Holds key earlier (Check body field) (accepted body field found)
+    field ≡ field0 (authenticator key body) → position (is_issue_of body) earlier ≡ found → Holds key earlier (Check body field) (accepted body field found)
 accepted_holds key earlier body field (Some place) right found = (right, (place, refl, issued_at body earlier place found))
 accepted_holds key earlier body field None right found = (refl, refl, right, never_issued body earlier found)
 
-checked_holds : (key : List ℕ) (earlier : List HopCommand) (body : Body) (field : List ℕ) (right : Bool) → bytes_eq field (field0 (sigma key body)) ≡ right →
+checked_holds : (key : List ℕ) (earlier : List HopCommand) (body : Body) (field : List ℕ) (right : Bool) →
+    bytes_eq field (field0 (authenticator key body)) ≡ right →
     Holds key earlier (Check body field) (cond right (accepted body field (position (is_issue_of body) earlier)) Refused)
-checked_holds key earlier body field true h = accepted_holds key earlier body field _ ((bytes_eq-Decides field (field0 (sigma key body))).0 h) refl
-checked_holds key earlier body field false h = λ right. cc (h, (bytes_eq-Decides field (field0 (sigma key body))).1 right)
+checked_holds key earlier body field true h = accepted_holds key earlier body field _ ((bytes_eq-Decides field (field0 (authenticator key body))).0 h) refl
+checked_holds key earlier body field false h = λ right. cc (h, (bytes_eq-Decides field (field0 (authenticator key body))).1 right)
 
-holds : (key : List ℕ) (earlier : List HopCommand) (command : HopCommand) → Holds key earlier command (answer_of key earlier command)
+holds : (key : List ℕ) (earlier : List HopCommand) (command : HopCommand) →
+    Holds key earlier command (answer_of key earlier command)
 holds key earlier (Issue body) = (refl, refl)
-holds key earlier (Check body field) = checked_holds key earlier body field (bytes_eq field (field0 (sigma key body))) refl
+holds key earlier (Check body field) = checked_holds key earlier body field (bytes_eq field (field0 (authenticator key body))) refl
 
-pub answers_hold : (key : List ℕ) (earlier commands : List HopCommand) → AllHold key earlier commands (answers_after key earlier commands)
+pub answers_hold : (key : List ℕ) (earlier commands : List HopCommand) →
+    AllHold key earlier commands (answers_after key earlier commands)
 answers_hold key earlier [] = tt
 answers_hold key earlier (command ∷ more) = (holds key earlier command, answers_hold key (earlier ++ command ∷ []) more)

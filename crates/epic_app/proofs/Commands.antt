@@ -7,7 +7,8 @@ use Rattle.epic_app.specs.declared.script.ScriptKind.TheVariants.{TooMany}
 use Rattle.epic_app.specs.Lines.{lines}
 use Rattle.epic_app.specs.Script.{Rule, Fault, line_command, at_line, numbered, with_front, commands_after}
 
-with_front-with_front : {C : Type 0} (front : List C) (command : C) (r : Result (List C) Fault) → with_front front (with_front (command ∷ []) r) ≡ with_front (front ++ command ∷ []) r
+with_front-with_front : {C : Type 0} (front : List C) (command : C) (r : Result (List C) Fault) →
+    with_front front (with_front (command ∷ []) r) ≡ with_front (front ++ command ∷ []) r
 with_front-with_front front command (Ok commands) = ap Ok (sym (append_assoc front (command ∷ []) commands))
 with_front-with_front front command (Err fault) = refl
 

@@ -3,10 +3,10 @@ use Rattle.std.proofs.Common.{◌≡◌, ◌⊎◌, ℕ, ◌<◌, true, false, L
 use Rattle.epic_app.specs.declared.end.End.{End}
 use Rattle.epic_app.specs.declared.end.End.TheVariants.{Done, BadWords, BadScript, LongScript, ReadFault, WriteFault, OutOfMemory}
 use Rattle.epic_app.specs.Request.{Request, fault_line, too_long_line}
-use Rattle.epic_app.specs.Outcome.{World, Told, Tells, EndsByFiles, ReadFails, WriteFails, MemoryEnds, NoFault, EndsWith, EndsUnder, read_line, write_line, memory_line}
+use Rattle.epic_app.specs.Outcome.{World, ErrorSink, Tells, EndsByFiles, ReadFails, WriteFails, MemoryEnds, NoFault, EndsWith, EndsUnder, read_line, write_line, memory_line}
 use Rattle.epic_app.specs.End.{status_of, line_of, HasCause, EndsAs, Performs}
 
-module _ (request : Request) (old new : World) (e f : Told) where
+module _ (request : Request) (old new : World) (e f : ErrorSink) where
   by_files : (end : End) → HasCause request old new end → Tells e f (line_of end) → status_of end < 6 →
       (line : List ℕ) × EndsByFiles request old new (status_of end) line × Tells e f line
   by_files (Done forged) cause tells below = ([], cause, tells)
@@ -28,7 +28,8 @@ module _ (request : Request) (old new : World) (e f : Told) where
   read WriteFault cause tells is = absurd (omega (arith, is))
   read OutOfMemory cause tells is = absurd (omega (arith, is))
 
-  write : (end : End) → HasCause request old new end → Tells e f (line_of end) → status_of end ≡ 7 → WriteFails request old new × Tells e f write_line
+  write : (end : End) → HasCause request old new end → Tells e f (line_of end) → status_of end ≡ 7 →
+      WriteFails request old new × Tells e f write_line
   write (Done true) cause tells is = absurd (omega (arith, is))
   write (Done false) cause tells is = absurd (omega (arith, is))
   write BadWords cause tells is = absurd cause
@@ -38,7 +39,8 @@ module _ (request : Request) (old new : World) (e f : Told) where
   write WriteFault cause tells is = (cause, tells)
   write OutOfMemory cause tells is = absurd (omega (arith, is))
 
-  memory : (end : End) → HasCause request old new end → Tells e f (line_of end) → status_of end ≡ 8 → MemoryEnds request old new × Tells e f memory_line
+  memory : (end : End) → HasCause request old new end → Tells e f (line_of end) → status_of end ≡ 8 →
+      MemoryEnds request old new × Tells e f memory_line
   memory (Done true) cause tells is = absurd (omega (arith, is))
   memory (Done false) cause tells is = absurd (omega (arith, is))
   memory BadWords cause tells is = absurd cause
@@ -48,7 +50,8 @@ module _ (request : Request) (old new : World) (e f : Told) where
   memory WriteFault cause tells is = absurd (omega (arith, is))
   memory OutOfMemory cause tells is = (cause, tells)
 
-  complete : (end : End) → HasCause request old new end → NoFault request old new → (status_of end < 6) ⊎ (status_of end ≡ 8)
+  complete : (end : End) → HasCause request old new end → NoFault request old new →
+      (status_of end < 6) ⊎ (status_of end ≡ 8)
   complete (Done true) cause none = inl (omega arith)
   complete (Done false) cause none = inl (omega arith)
   complete BadWords cause none = absurd cause
@@ -58,7 +61,8 @@ module _ (request : Request) (old new : World) (e f : Told) where
   complete WriteFault cause none = absurd (none.writes cause.rose)
   complete OutOfMemory cause none = inr refl
 
-  ends_with : (end : End) → EndsAs request old new end → Tells e f (line_of end) → EndsWith request old new e f (status_of end)
+  ends_with : (end : End) → EndsAs request old new end → Tells e f (line_of end) →
+      EndsWith request old new e f (status_of end)
   ends_with end ended tells = record {
     is_status = ended.is_status;
     by_files = by_files end ended.cause tells;
@@ -70,7 +74,8 @@ module _ (request : Request) (old new : World) (e f : Told) where
     files = ended.files;
   }
 
-pub ends_under : (request : Option Request) (old new : World) (e f : Told) (end : End) → Performs request old new end → Tells e f (line_of end) → EndsUnder request old new e f (status_of end)
+pub ends_under : (request : Option Request) (old new : World) (e f : ErrorSink) (end : End) →
+    Performs request old new end → Tells e f (line_of end) → EndsUnder request old new e f (status_of end)
 ends_under None old new e f end (refused, same) tells = record {
   is_status = ap status_of refused;
   same = same;

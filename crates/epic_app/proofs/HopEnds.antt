@@ -25,7 +25,8 @@ use Rattle.epic_app.specs.End.{EndsAs, HasCause, IsStatus}
 contains_one : (name q : List ℕ) → q ≡ name → Contains (name ∷ []) q
 contains_one name q e = (0, omega arith, sym e)
 
-counts_stay : (key name : List ℕ) (old new : World) → CountsOnly name old.reads new.reads → new.writes ≡ old.writes → CountsStay (Hop key name) old new
+counts_stay : (key name : List ℕ) (old new : World) → CountsOnly name old.reads new.reads →
+    new.writes ≡ old.writes → CountsStay (Hop key name) old new
 counts_stay key name old new only same = record {
   reads = λ q absent. only.others q (λ e. absent (contains_one name q e));
   writes = λ q absent. ap (λ (counts : List ℕ → ℕ). counts q) same;
@@ -48,14 +49,17 @@ some_files : (contents : Option Files) → (files : Files) × AsTold contents fi
 some_files None = ((λ name. None), tt)
 some_files (Some files) = (files, refl)
 
-pub read : (contents : Option Files) (name : List ℕ) (limit : ℕ) (bytes : Vec ℕ) → ReadsFile contents name limit (Ok bytes) → Read contents name bytes.items
+pub read : (contents : Option Files) (name : List ℕ) (limit : ℕ) (bytes : Vec ℕ) →
+    ReadsFile contents name limit (Ok bytes) → Read contents name bytes.items
 read None name limit bytes told = record { files = λ q. Some bytes.items; as_told = tt; is_file = refl }
 read (Some files) name limit bytes told = record { files = files; as_told = refl; is_file = told.0 }
 
 longer : (n : ℕ) → (bytes : List ℕ) × (n < length bytes)
 longer n = (replicate (n + 1) 0, omega (arith, length-replicate {A = ℕ} (n + 1) 0))
 
-pub read_long : (contents : Option Files) (name : List ℕ) (limit : ℕ) → ReadsFile contents name limit (Err TooLong) → (bytes : List ℕ) × (limit < length bytes) × Read contents name bytes
+pub read_long : (contents : Option Files) (name : List ℕ) (limit : ℕ) →
+    ReadsFile contents name limit (Err TooLong) →
+    (bytes : List ℕ) × (limit < length bytes) × Read contents name bytes
 read_long None name limit told =
     let (bytes, long) = longer limit in
     (bytes, long, record { files = λ q. Some bytes; as_told = tt; is_file = refl })
@@ -67,7 +71,8 @@ cond_past m n x y h = grind (arith, nat_tests)
 cond_below : {X : Type 0} (m n : ℕ) (x y : X) → m < n → cond (ltb m n) x y ≡ x
 cond_below m n x y h = grind (arith, nat_tests)
 
-within_limit : (key bytes : List ℕ) (t : Result (List HopCommand) Fault) → length bytes ≤ FILE_LIMIT → commands_of hop_rule bytes ≡ t → hop_ending key bytes ≡ hop_told key t
+within_limit : (key bytes : List ℕ) (t : Result (List HopCommand) Fault) → length bytes ≤ FILE_LIMIT →
+    commands_of hop_rule bytes ≡ t → hop_ending key bytes ≡ hop_told key t
 within_limit key bytes t within is =
     cond_past FILE_LIMIT (length bytes) (refused too_long_line) (hop_told key (commands_of hop_rule bytes)) within ∙ ap (hop_told key) is
 
@@ -81,10 +86,12 @@ one_or_none true = (omega arith, omega arith)
 one_or_none false = (omega arith, omega arith)
 
 module _ (key name bytes : List ℕ) (old new : World) (file : Read old.contents name bytes) where
-  decided : (ending : Ending) → hop_ending key bytes ≡ ending → ending_of file.files (Hop key name) ≡ Some ending
+  decided : (ending : Ending) → hop_ending key bytes ≡ ending →
+      ending_of file.files (Hop key name) ≡ Some ending
   decided ending is = ap (option_map (hop_ending key)) file.is_file ∙ ap Some is
 
-  by_files : (ending : Ending) (status : ℕ) (line : List ℕ) → hop_ending key bytes ≡ ending → status ≡ ending.status → line ≡ ending.line →
+  by_files : (ending : Ending) (status : ℕ) (line : List ℕ) → hop_ending key bytes ≡ ending →
+      status ≡ ending.status → line ≡ ending.line →
       Appends old.written new.written ending.report → EndsByFiles (Hop key name) old new status line
   by_files ending status line is same_status same_line report = record {
     files = file.files;
@@ -96,21 +103,26 @@ module _ (key name bytes : List ℕ) (old new : World) (file : Read old.contents
     report = report;
   }
 
-  pub long_script : FILE_LIMIT < length bytes → Appends old.written new.written [] → EndsByFiles (Hop key name) old new 4 too_long_line
+  pub long_script : FILE_LIMIT < length bytes → Appends old.written new.written [] →
+      EndsByFiles (Hop key name) old new 4 too_long_line
   long_script past report = by_files (refused too_long_line) 4 too_long_line (past_limit key bytes past) refl refl report
 
-  pub bad_script : (line : ℕ) (kind : ScriptKind) → length bytes ≤ FILE_LIMIT → commands_of hop_rule bytes ≡ Err (line, kind) → Appends old.written new.written [] →
+  pub bad_script : (line : ℕ) (kind : ScriptKind) → length bytes ≤ FILE_LIMIT →
+      commands_of hop_rule bytes ≡ Err (line, kind) → Appends old.written new.written [] →
       EndsByFiles (Hop key name) old new 4 (fault_line line kind)
   bad_script line kind within is report =
       by_files (refused (fault_line line kind)) 4 (fault_line line kind) (within_limit key bytes (Err (line, kind)) within is) refl refl report
 
   module _ (commands : List HopCommand) (within : length bytes ≤ FILE_LIMIT) (are : commands_of hop_rule bytes ≡ Ok commands) where
-    pub done : (forged : Bool) → forged ≡ ltb 0 (count_by is_forged (answers key commands)) → Appends old.written new.written (report_text (answers key commands)) →
+    pub done : (forged : Bool) → forged ≡ ltb 0 (count_by is_forged (answers key commands)) →
+        Appends old.written new.written (report_text (answers key commands)) →
         EndsByFiles (Hop key name) old new (cond forged 1 0) []
     done forged is report =
         by_files (hop_told key (Ok commands)) (cond forged 1 0) [] (within_limit key bytes (Ok commands) within are) (ap (λ (b : Bool). cond b 1 0) is) refl report
 
-    pub write_fails : Rose old.faults new.faults → AppendsFront old.written new.written (report_text (answers key commands)) → WriteFails (Hop key name) old new
+    pub write_fails : Rose old.faults new.faults →
+        AppendsFront old.written new.written (report_text (answers key commands)) →
+        WriteFails (Hop key name) old new
     write_fails rose report = record {
       files = file.files;
       as_told = file.as_told;
@@ -121,7 +133,8 @@ module _ (key name bytes : List ℕ) (old new : World) (file : Read old.contents
       report = report;
     }
 
-    pub memory_ends : AppendsFront old.written new.written (report_text (answers key commands)) → MemoryEnds (Hop key name) old new
+    pub memory_ends : AppendsFront old.written new.written (report_text (answers key commands)) →
+        MemoryEnds (Hop key name) old new
     memory_ends report = record {
       files = file.files;
       as_told = file.as_told;
@@ -129,14 +142,16 @@ module _ (key name bytes : List ℕ) (old new : World) (file : Read old.contents
     }
 
 -- memory was wanting before anything was written
-pub memory_first : (request : Request) (old new : World) → Appends old.written new.written [] → MemoryEnds request old new
+pub memory_first : (request : Request) (old new : World) → Appends old.written new.written [] →
+    MemoryEnds request old new
 memory_first request old new nothing =
     let (files, as_told) = some_files old.contents in
     record { files = files; as_told = as_told; report = ([], report_of files request, refl, nothing) }
 
 -- ---- the whole
 
-hop_status : (key name : List ℕ) (old new : World) (end : End) → HasCause (Hop key name) old new end → IsStatus (Hop key name) end
+hop_status : (key name : List ℕ) (old new : World) (end : End) → HasCause (Hop key name) old new end →
+    IsStatus (Hop key name) end
 hop_status key name old new (Done true) cause = refl
 hop_status key name old new (Done false) cause = refl
 hop_status key name old new BadWords cause = absurd cause

@@ -20,28 +20,34 @@ rest_step key commands i d answer is within =
     ∙ ap (λ (earlier : List HopCommand). answer_of key (take i commands) (get_or commands i d) ∷ answers_after key earlier (drop (i + 1) commands)) (sym (take_more commands i d within))
     ∙ ap (λ (given : HopAnswer). given ∷ rest_of key commands (i + 1)) (sym is)
 
-pub rest_end : (key : List ℕ) (commands : List HopCommand) (i : ℕ) → length commands ≤ i → rest_of key commands i ≡ []
+pub rest_end : (key : List ℕ) (commands : List HopCommand) (i : ℕ) → length commands ≤ i →
+    rest_of key commands i ≡ []
 rest_end key commands i past = ap (answers_after key (take i commands)) (drop_all i commands past)
 
-pub length-answers_after : (key : List ℕ) (earlier commands : List HopCommand) → length (answers_after key earlier commands) ≡ length commands
+pub length-answers_after : (key : List ℕ) (earlier commands : List HopCommand) →
+    length (answers_after key earlier commands) ≡ length commands
 length-answers_after key earlier [] = refl
 length-answers_after key earlier (command ∷ more) = ap suc (length-answers_after key (earlier ++ command ∷ []) more)
 
 -- a front of a line was written after the lines before it
-pub front_in_line : (u v w : Option (List ℕ)) (front line more end all : List ℕ) → Appends u v front → AppendsFront v w line → all ≡ front ++ (line ++ more) → AppendsFront u w (all ++ end)
+pub front_in_line : (u v w : Option (List ℕ)) (front line more end all : List ℕ) → Appends u v front →
+    AppendsFront v w line → all ≡ front ++ (line ++ more) → AppendsFront u w (all ++ end)
 front_in_line u v w front line more end all before in_line is =
     rw is (AppendsFront-more u w (front ++ (line ++ more)) end (AppendsFront-after u v w front (line ++ more) before (AppendsFront-more v w line more in_line)))
 
 -- a line was written after the lines before it
-pub line_after : (u v w : Option (List ℕ)) (front line more all : List ℕ) → Appends u v front → Appends v w line → all ≡ front ++ (line ++ more) →
+pub line_after : (u v w : Option (List ℕ)) (front line more all : List ℕ) → Appends u v front →
+    Appends v w line → all ≡ front ++ (line ++ more) →
     (front' : List ℕ) × Appends u w front' × (all ≡ front' ++ more)
 line_after u v w front line more all before now is = (front ++ line, Appends-trans u v w front line before now, is ∙ sym (append_assoc front line more))
 
 -- the last line after all others
-pub front_in_end : (u v w : Option (List ℕ)) (front end all : List ℕ) → Appends u v front → AppendsFront v w end → all ≡ front ++ [] → AppendsFront u w (all ++ end)
+pub front_in_end : (u v w : Option (List ℕ)) (front end all : List ℕ) → Appends u v front →
+    AppendsFront v w end → all ≡ front ++ [] → AppendsFront u w (all ++ end)
 front_in_end u v w front end all before in_end is = rw (is ∙ append-nil front) (AppendsFront-after u v w front end before in_end)
 
-pub end_after : (u v w : Option (List ℕ)) (front end all : List ℕ) → Appends u v front → Appends v w end → all ≡ front ++ [] → Appends u w (all ++ end)
+pub end_after : (u v w : Option (List ℕ)) (front end all : List ℕ) → Appends u v front → Appends v w end →
+    all ≡ front ++ [] → Appends u w (all ++ end)
 end_after u v w front end all before now is = rw (is ∙ append-nil front) (Appends-trans u v w front end before now)
 
 -- ---- counts
@@ -55,7 +61,8 @@ count_step p all rest more answer n n' hit counts step is next =
     omega (arith, counts, first, next)
 
 -- nothing is left to count
-pub count_end : (p : HopAnswer → Bool) (all rest : List HopAnswer) (n : ℕ) → count_by p all ≡ n + count_by p rest → rest ≡ [] → n ≡ count_by p all
+pub count_end : (p : HopAnswer → Bool) (all rest : List HopAnswer) (n : ℕ) →
+    count_by p all ≡ n + count_by p rest → rest ≡ [] → n ≡ count_by p all
 count_end p all rest n counts none =
     let nothing : count_by p rest ≡ 0 = ap (count_by p) none in
     omega (arith, counts, nothing)

@@ -7,12 +7,14 @@ use Rattle.std.proofs.lemmas.List.Splits.{slice_split_first, slice_split_none, l
 use Rattle.std.specs.List.{slice_split, position, position_or_len, All}
 use Rattle.epic_app.specs.Lines.{is_line_feed, without_empty_last, parts}
 
-without_empty_last-cons : (part : List ℕ) (more : List (List ℕ)) → 0 < length more → without_empty_last (part ∷ more) ≡ part ∷ without_empty_last more
+without_empty_last-cons : (part : List ℕ) (more : List (List ℕ)) → 0 < length more →
+    without_empty_last (part ∷ more) ≡ part ∷ without_empty_last more
 without_empty_last-cons part [] h = absurd (omega (arith, h))
 without_empty_last-cons part (next ∷ more) h = refl
 
 -- a line feed ends the first part
-pub parts_some : (text : List ℕ) (i : ℕ) → position is_line_feed text ≡ Some i → parts text ≡ take i text ∷ parts (drop (i + 1) text)
+pub parts_some : (text : List ℕ) (i : ℕ) → position is_line_feed text ≡ Some i →
+    parts text ≡ take i text ∷ parts (drop (i + 1) text)
 parts_some text i found =
     let f = position-Some is_line_feed text i 0 found in
     let within : i ≤ length text = omega (arith, f.0) in

@@ -9,21 +9,26 @@ use Rattle.epic_app.specs.Script.{Fault, commands_of}
 use Rattle.epic_app.specs.HopFile.{hop_rule}
 use Rattle.epic_app.specs.HopReport.{answers, is_forged}
 use Rattle.epic_app.specs.Request.{Request, Hop, Ending, hop_ending, hop_told, refused, too_long_line}
-use Rattle.epic_app.specs.Outcome.{World, Told, EndsByFiles, EndsUnder, HopHolds, HoldsUnder}
+use Rattle.epic_app.specs.Outcome.{World, ErrorSink, EndsByFiles, EndsUnder, HopHolds, HoldsUnder}
 use Rattle.epic_app.proofs.AnswersHold.{answers_hold}
 
 -- the file that decided an ending
-from_file : (key : List ℕ) (file : Option (List ℕ)) (ending : Ending) → option_map (hop_ending key) file ≡ Some ending → (bytes : List ℕ) × (file ≡ Some bytes) × (hop_ending key bytes ≡ ending)
+from_file : (key : List ℕ) (file : Option (List ℕ)) (ending : Ending) →
+    option_map (hop_ending key) file ≡ Some ending →
+    (bytes : List ℕ) × (file ≡ Some bytes) × (hop_ending key bytes ≡ ending)
 from_file key None ending is = cc
 from_file key (Some bytes) ending is = (bytes, refl, cc)
 
 -- an ending of status 0 or 1 is of a file within the limit
-from_limit : (key : List ℕ) (t : Result (List HopCommand) Fault) (past : Bool) (ending : Ending) → cond past (refused too_long_line) (hop_told key t) ≡ ending → ending.status < 2 → hop_told key t ≡ ending
+from_limit : (key : List ℕ) (t : Result (List HopCommand) Fault) (past : Bool) (ending : Ending) →
+    cond past (refused too_long_line) (hop_told key t) ≡ ending → ending.status < 2 →
+    hop_told key t ≡ ending
 from_limit key t true ending is below = absurd (omega (arith, ap (λ (e : Ending). e.status) is, below))
 from_limit key t false ending is below = is
 
 -- and of commands
-from_told : (key : List ℕ) (t : Result (List HopCommand) Fault) (ending : Ending) → hop_told key t ≡ ending → ending.status < 2 →
+from_told : (key : List ℕ) (t : Result (List HopCommand) Fault) (ending : Ending) → hop_told key t ≡ ending →
+    ending.status < 2 →
     (commands : List HopCommand) × (t ≡ Ok commands) × (ending ≡ hop_told key (Ok commands))
 from_told key (Ok commands) ending is below = (commands, refl, sym is)
 from_told key (Err (line, kind)) ending is below = absurd (omega (arith, ap (λ (e : Ending). e.status) is, below))
@@ -40,7 +45,8 @@ status_one : (b c : Bool) (status : ℕ) → b ≡ c → status ≡ cond b 1 0 �
 status_one true c status same is = (λ h. sym same, λ h. is)
 status_one false c status same is = (λ h. absurd (omega (arith, is, h)), λ h. cc)
 
-hop_holds : (key name : List ℕ) (old new : World) (status : ℕ) (line : List ℕ) → EndsByFiles (Hop key name) old new status line → status < 2 → HopHolds key name old new status
+hop_holds : (key name : List ℕ) (old new : World) (status : ℕ) (line : List ℕ) →
+    EndsByFiles (Hop key name) old new status line → status < 2 → HopHolds key name old new status
 hop_holds key name old new status line by below =
     let below_two : by.ending.status < 2 = omega (arith, by.same_status, below) in
     let (bytes, is_file, is_ending) = from_file key (by.files name) by.ending by.is_ending in
@@ -59,7 +65,8 @@ hop_holds key name old new status line by below =
       forged = status_one (ltb 0 (count_by is_forged (answers key commands))) (list_any is_forged (answers key commands)) status (any_count is_forged (answers key commands)) (by.same_status ∙ ap (λ (e : Ending). e.status) decided);
     }
 
-pub holds_under : (request : Option Request) (old new : World) (e f : Told) (status : ℕ) → EndsUnder request old new e f status → HoldsUnder request old new status
+pub holds_under : (request : Option Request) (old new : World) (e f : ErrorSink) (status : ℕ) →
+    EndsUnder request old new e f status → HoldsUnder request old new status
 holds_under None old new e f status ended = tt
 holds_under (Some (Hop key name)) old new e f status ended = λ below.
     let (line, by, tells) = ended.by_files (omega (arith, below)) in

@@ -28,7 +28,8 @@ two_bytes a b af bf zero = af
 two_bytes a b af bf (suc zero) = bf
 two_bytes a b af bf (suc (suc i)) = omega arith
 
-four_bytes : (a b c d : ℕ) → a < 256 → b < 256 → c < 256 → d < 256 → (i : ℕ) → get_or (a ∷ b ∷ c ∷ d ∷ []) i 0 < 256
+four_bytes : (a b c d : ℕ) → a < 256 → b < 256 → c < 256 → d < 256 → (i : ℕ) →
+    get_or (a ∷ b ∷ c ∷ d ∷ []) i 0 < 256
 four_bytes a b c d af bf cf df zero = af
 four_bytes a b c d af bf cf df (suc zero) = bf
 four_bytes a b c d af bf cf df (suc (suc zero)) = cf
@@ -36,7 +37,8 @@ four_bytes a b c d af bf cf df (suc (suc (suc zero))) = df
 four_bytes a b c d af bf cf df (suc (suc (suc (suc i)))) = omega arith
 
 -- the body that 18 bytes spell has these bytes
-pub body_bytes-by_reads : (bs : List ℕ) → length bs ≡ 18 → ((i : ℕ) → get_or bs i 0 < 256) → body_bytes (body_by_reads bs) ≡ bs
+pub body_bytes-by_reads : (bs : List ℕ) → length bs ≡ 18 → ((i : ℕ) → get_or bs i 0 < 256) →
+    body_bytes (body_by_reads bs) ≡ bs
 unfolding body_bytes u16_bytes u32_bytes
 body_bytes-by_reads (b0 ∷ b1 ∷ b2 ∷ b3 ∷ b4 ∷ b5 ∷ b6 ∷ b7 ∷ b8 ∷ b9 ∷ l0 ∷ l1 ∷ l2 ∷ l3 ∷ l4 ∷ l5 ∷ l6 ∷ l7 ∷ []) n f =
     let link = l0 ∷ l1 ∷ l2 ∷ l3 ∷ l4 ∷ l5 ∷ l6 ∷ l7 ∷ [] in

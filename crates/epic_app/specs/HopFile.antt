@@ -1,4 +1,4 @@
--- The lines of the file of `hop`: `issue BODY` and `check BODY FIELD`, both in hexadecimal digits of either case.
+-- The lines of the file of `hop`: `issue BODY` and `check BODY FIELD`, in hexadecimal digits of either case.
 use Rattle.std.specs.Prelude.{ℕ, List, [], ◌∷◌, Result, Ok, Err, codes, bytes_eq, if◌then◌else◌}
 use Rattle.hex.specs.Hex.{decode_sized}
 use Rattle.hex.specs.declared.error.FromHexError.{FromHexError}
@@ -9,7 +9,8 @@ use Rattle.epic_app.specs.declared.script.ScriptKind.TheVariants.{UnknownVerb, W
 use Rattle.epic_app.specs.Spelling.{body_of}
 
 -- what follows the bytes of a word, which is refused where it doesn't spell them
-abbrev pub on_bytes : {C : Type 0} → ℕ → Result (List ℕ) FromHexError → (List ℕ → Result C ScriptKind) → Result C ScriptKind
+abbrev pub on_bytes : {C : Type 0} → ℕ → Result (List ℕ) FromHexError
+    → (List ℕ → Result C ScriptKind) → Result C ScriptKind
 on_bytes word (Ok bytes) next = next bytes
 on_bytes word (Err error) next = Err (BadWord word)
 
@@ -20,7 +21,8 @@ issue_of arguments = Err WordCount
 
 -- and a field 3
 abbrev pub check_of : List (List ℕ) → Result HopCommand ScriptKind
-check_of (body ∷ field ∷ []) = on_bytes 2 (decode_sized body 18) (λ b. on_bytes 3 (decode_sized field 3) (λ f. Ok (Check (body_of b) f)))
+check_of (body ∷ field ∷ []) =
+    on_bytes 2 (decode_sized body 18) (λ b. on_bytes 3 (decode_sized field 3) (λ f. Ok (Check (body_of b) f)))
 check_of arguments = Err WordCount
 
 abbrev pub hop_rule : List ℕ → List (List ℕ) → Result HopCommand ScriptKind

@@ -20,19 +20,26 @@ pub record World : Type 0 where
   pub faults : ℕ
 
 abbrev pub world : Option Files → (List ℕ → ℕ) → (List ℕ → ℕ) → Option (List ℕ) → ℕ → World
-world contents reads writes written faults = record { contents = contents; reads = reads; writes = writes; written = written; faults = faults }
+world contents reads writes written faults = record {
+  contents = contents;
+  reads = reads;
+  writes = writes;
+  written = written;
+  faults = faults;
+}
 
--- a sink
-pub record Told : Type 0 where
+-- the sink of errors
+pub record ErrorSink : Type 0 where
   pub written : Option (List ℕ)
   pub faults : ℕ
 
-abbrev pub told : Option (List ℕ) → ℕ → Told
-told written faults = record { written = written; faults = faults }
+abbrev pub error_sink : Option (List ℕ) → ℕ → ErrorSink
+error_sink written faults = record { written = written; faults = faults }
 
 -- a line was written, or a front of it where the count of faults rose
-abbrev pub Tells : Told → Told → List ℕ → Type 0
-Tells old new line = Appends old.written new.written line ⊎ (AppendsFront old.written new.written line × Rose old.faults new.faults)
+abbrev pub Tells : ErrorSink → ErrorSink → List ℕ → Type 0
+Tells old new line =
+    Appends old.written new.written line ⊎ (AppendsFront old.written new.written line × Rose old.faults new.faults)
 
 -- contents as the store tells them; any where it tells none
 abbrev pub AsTold : Option Files → Files → Type 0
@@ -64,7 +71,8 @@ pub record ReadFails (request : Request) (old new : World) (name : List ℕ) : T
 -- a write failed, of the output or of a file that is written
 abbrev pub WriteRose : Request → World → World → Type 0
 WriteRose request old new =
-    Rose old.faults new.faults ⊎ ((name : List ℕ) × Contains (writes_of request) name × Rose (old.writes name) (new.writes name))
+    Rose old.faults new.faults
+    ⊎ ((name : List ℕ) × Contains (writes_of request) name × Rose (old.writes name) (new.writes name))
 
 -- the files were read, and refused by no fault; a write failed, and a front of the report was written
 pub record WriteFails (request : Request) (old new : World) : Type 0 where
@@ -91,7 +99,8 @@ pub record CountsStay (request : Request) (old new : World) : Type 0 where
 abbrev pub FilesStay : Request → Option Files → Option Files → Type 0
 FilesStay request None new = ⊤
 FilesStay request (Some old) None = ⊥
-FilesStay request (Some old) (Some new) = (name : List ℕ) → ¬ Contains (writes_of request) name → new name ≡ old name
+FilesStay request (Some old) (Some new) =
+    (name : List ℕ) → ¬ Contains (writes_of request) name → new name ≡ old name
 
 -- no read of a file that is read and no write of the output or of a file that is written failed
 pub record NoFault (request : Request) (old new : World) : Type 0 where
@@ -113,7 +122,7 @@ abbrev pub words_line : List ℕ
 words_line = codes "epic: words\n"
 
 -- a command ended with this status, the errors going from e to f
-pub record EndsWith (request : Request) (old new : World) (e f : Told) (status : ℕ) : Type 0 where
+pub record EndsWith (request : Request) (old new : World) (e f : ErrorSink) (status : ℕ) : Type 0 where
   pub is_status : IsTrue (list_any (λ s. s == status) (statuses_of request))
   pub by_files : status < 6 → (line : List ℕ) × EndsByFiles request old new status line × Tells e f line
   pub read : status ≡ 6 → (name : List ℕ) × ReadFails request old new name × Tells e f (read_line name)
@@ -125,22 +134,22 @@ pub record EndsWith (request : Request) (old new : World) (e f : Told) (status :
   pub files : FilesStay request old.contents new.contents
 
 -- the words are no command
-pub record RefusesWords (old new : World) (e f : Told) (status : ℕ) : Type 0 where
+pub record RefusesWords (old new : World) (e f : ErrorSink) (status : ℕ) : Type 0 where
   pub is_status : status ≡ 2
   pub same : new ≡ old
   pub line : Tells e f words_line
 
-abbrev pub EndsUnder : Option Request → World → World → Told → Told → ℕ → Type 0
+abbrev pub EndsUnder : Option Request → World → World → ErrorSink → ErrorSink → ℕ → Type 0
 EndsUnder None old new e f status = RefusesWords old new e f status
 EndsUnder (Some request) old new e f status = EndsWith request old new e f status
 
 -- the words of a command line, the world and the errors before and after it, and its status
-abbrev pub Ends : List (List ℕ) → World → World → Told → Told → ℕ → Type 0
+abbrev pub Ends : List (List ℕ) → World → World → ErrorSink → ErrorSink → ℕ → Type 0
 Ends words old new e f status = EndsUnder (request_of words) old new e f status
 
 -- ---- what the report of a run that was done claims
 
--- the file holds commands; the lines are those of answers, each of which holds; and status 1 tells that one is forged
+-- the file holds commands; the lines are those of answers, each of which holds; status 1 tells that one is forged
 pub record HopHolds (key name : List ℕ) (old new : World) (status : ℕ) : Type 0 where
   pub files : Files
   pub as_told : AsTold old.contents files

@@ -1,4 +1,5 @@
--- What the words ask for, and what the files that it reads say of its end. A new command adds a case to each definition.
+-- What the words ask for, and what the files that it reads say of its end. A new command adds a case to each
+-- definition.
 use Rattle.std.specs.Prelude.{ℕ, if◌then◌else◌, nat_lt, List, [], ◌∷◌, length, count_by, Option, Some, None, Result, Ok, Err, codes, bytes_eq, decimal}
 use Rattle.std.specs.Option.{option_map}
 use Rattle.hex.specs.Hex.{decode_sized}
@@ -10,7 +11,7 @@ use Rattle.epic_app.specs.declared.script.ScriptKind.{ScriptKind}
 use Rattle.epic_app.specs.declared.script.ScriptKind.TheVariants.{NotText, UnknownVerb, WordCount, BadWord, TooMany}
 use Rattle.epic_app.specs.Script.{Fault, commands_of}
 use Rattle.epic_app.specs.HopFile.{hop_rule}
-use Rattle.epic_app.specs.HopReport.{◌⊕◌, answers, is_forged, report_text}
+use Rattle.epic_app.specs.HopReport.{◌⊕◌, answers, hop_report, is_forged}
 
 pub data Request : Type 0 where
   -- `hop KEY FILE`: the bytes of the key, the name of the file
@@ -21,9 +22,14 @@ hop_request name (Ok key) = Some (Hop key name)
 hop_request name (Err error) = None
 
 -- the words of `hop`: a key of 16 bytes in hexadecimal digits, and a name
+abbrev pub hop_of : List (List ℕ) → Option Request
+hop_of (command ∷ key ∷ name ∷ []) =
+    if bytes_eq command (codes "hop") then hop_request name (decode_sized key 16) else None
+hop_of words = None
+
+-- what the words ask for; none where they are no command
 abbrev pub request_of : List (List ℕ) → Option Request
-request_of (command ∷ key ∷ name ∷ []) = if bytes_eq command (codes "hop") then hop_request name (decode_sized key 16) else None
-request_of words = None
+request_of words = hop_of words
 
 -- the names of the files that are read
 abbrev pub reads_of : Request → List (List ℕ)
@@ -70,13 +76,14 @@ refused line = record { status = 4; report = []; line = line }
 abbrev pub hop_told : List ℕ → Result (List HopCommand) Fault → Ending
 hop_told key (Ok commands) = record {
   status = if nat_lt 0 (count_by is_forged (answers key commands)) then 1 else 0;
-  report = report_text (answers key commands);
+  report = hop_report key commands;
   line = [];
 }
 hop_told key (Err (line, kind)) = refused (fault_line line kind)
 
 abbrev pub hop_ending : List ℕ → List ℕ → Ending
-hop_ending key file = if nat_lt FILE_LIMIT (length file) then refused too_long_line else hop_told key (commands_of hop_rule file)
+hop_ending key file =
+    if nat_lt FILE_LIMIT (length file) then refused too_long_line else hop_told key (commands_of hop_rule file)
 
 -- the end that the contents of the files decide; none where a file isn't there
 abbrev pub ending_of : Files → Request → Option Ending

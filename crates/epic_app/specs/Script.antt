@@ -1,5 +1,5 @@
--- The commands of a script, or its first fault. A rule takes the first word of a line and the words after it to a command
--- or a fault.
+-- The commands of a script, or its first fault. A rule takes the first word of a line and the words after it to a
+-- command or a fault.
 use Rattle.std.specs.Prelude.{◌≡◌, ℕ, ◌+◌, ◌==◌, nat_lt, slice_index, Bool, if◌then◌else◌, List, [], ◌∷◌, ◌++◌, Option, Some, None, Result, Ok, Err, ⊤}
 use Rattle.std.specs.Global.{Vec}
 use Rattle.std.specs.List.{list_all}
@@ -26,13 +26,15 @@ some_command (Err kind) = Err kind
 -- no words, and those of a comment, are no command and no fault
 abbrev pub words_command : {C : Type 0} → Rule C → List (List ℕ) → Result (Option C) ScriptKind
 words_command rule [] = Ok None
-words_command rule (verb ∷ arguments) = if is_comment verb then Ok None else some_command (rule verb arguments)
+words_command rule (verb ∷ arguments) =
+    if is_comment verb then Ok None else some_command (rule verb arguments)
 
 -- the command of a line, if it has one, or its fault; a byte that is no text is told first
 abbrev pub line_command : {C : Type 0} → Rule C → List ℕ → Result (Option C) ScriptKind
 line_command rule line = if list_all is_text_byte line then words_command rule (words line) else Err NotText
 
-abbrev pub at_line : {C : Type 0} → ℕ → Result (Option C) ScriptKind → List (ℕ × Result C ScriptKind) → List (ℕ × Result C ScriptKind)
+abbrev pub at_line : {C : Type 0} → ℕ → Result (Option C) ScriptKind
+    → List (ℕ × Result C ScriptKind) → List (ℕ × Result C ScriptKind)
 at_line number (Ok None) more = more
 at_line number (Ok (Some command)) more = (number, Ok command) ∷ more
 at_line number (Err kind) more = (number, Err kind) ∷ more
@@ -56,7 +58,8 @@ abbrev pub commands_after : {C : Type 0} → ℕ → List (ℕ × Result C Scrip
 commands_after count [] = Ok []
 commands_after count ((line, Err kind) ∷ more) = Err (line, kind)
 commands_after count ((line, Ok command) ∷ more) =
-    if nat_lt count MAX_COMMANDS then with_front (command ∷ []) (commands_after (count + 1) more) else Err (line, TooMany)
+    if nat_lt count MAX_COMMANDS then with_front (command ∷ []) (commands_after (count + 1) more)
+    else Err (line, TooMany)
 
 -- the commands of a text, or its first fault. Lines count from 1.
 abbrev pub commands_of : {C : Type 0} → Rule C → List ℕ → Result (List C) Fault

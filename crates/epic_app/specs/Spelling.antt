@@ -3,8 +3,8 @@ use Rattle.std.specs.Prelude.{ℕ, List, take, drop, slice_index}
 use Rattle.std.specs.Int.{w16, w32, from_be_bytes}
 use Rattle.epic_num.specs.declared.hop.Body.{Body}
 
--- position, expiry, the segment's timestamp, both interfaces, and the link tag of the hop before; numbers have the highest
--- byte first
+-- position, expiry, the segment's timestamp, both interfaces, and the link tag of the hop before; numbers have the
+-- highest byte first
 unfoldable pub body_of : List ℕ → Body
 body_of bytes = record {
   pos = slice_index bytes 0;

@@ -5,7 +5,7 @@ ghost use Rattle.epic_ports.specs.Faults.{FailsOnlyBy};
 ghost use Rattle.epic_ports.specs.Written.{Appends, AppendsFront};
 ghost use Rattle.epic_app.specs.declared.script.ScriptKind.TheVariants.{BadWord};
 ghost use Rattle.epic_app.specs.End.{line_of, status_of};
-ghost use Rattle.epic_app.specs.Outcome.{Tells, told};
+ghost use Rattle.epic_app.specs.Outcome.{Tells, error_sink};
 ghost use Rattle.epic_app.specs.Request.{fault_line, named_line};
 
 use crate::script::ScriptKind;
@@ -48,8 +48,10 @@ impl End<'_> {
 
 /// Writes the pieces one after the other. After an error a front of them was written.
 fn write_pieces<E: Sink>(err: &mut E, pieces: &[&[u8]]) -> Result<(), PortError>
-    ensures ok { OnOk result (Appends (E.written err.old) (E.written err.new) (flat_map (λ piece. piece.now) pieces.now)) }
-    ensures err { OnErr result (AppendsFront (E.written err.old) (E.written err.new) (flat_map (λ piece. piece.now) pieces.now)) }
+    ensures ok { OnOk result (Appends (E.written err.old) (E.written err.new)
+        (flat_map (λ piece. piece.now) pieces.now)) }
+    ensures err { OnErr result (AppendsFront (E.written err.old) (E.written err.new)
+        (flat_map (λ piece. piece.now) pieces.now)) }
     ensures later { E.faults err.old ≤ E.faults err.new }
     ensures cause { FailsOnlyBy (E.faults err.old) (E.faults err.new) result }
 {
@@ -61,8 +63,10 @@ fn write_pieces<E: Sink>(err: &mut E, pieces: &[&[u8]]) -> Result<(), PortError>
 
 /// Writes the line of a script's fault that has a name alone.
 fn write_named<E: Sink>(err: &mut E, line: u32, name: &[u8]) -> Result<(), PortError>
-    ensures ok { OnOk result (Appends (E.written err.old) (E.written err.new) (named_line line name.now)) }
-    ensures err { OnErr result (AppendsFront (E.written err.old) (E.written err.new) (named_line line name.now)) }
+    ensures ok { OnOk result (Appends (E.written err.old) (E.written err.new)
+        (named_line line name.now)) }
+    ensures err { OnErr result (AppendsFront (E.written err.old) (E.written err.new)
+        (named_line line name.now)) }
     ensures cause { FailsOnlyBy (E.faults err.old) (E.faults err.new) result }
 {
     let mut number = Buffer::new();
@@ -80,8 +84,10 @@ fn write_named<E: Sink>(err: &mut E, line: u32, name: &[u8]) -> Result<(), PortE
 
 /// Writes the line of a script's fault.
 fn write_fault<E: Sink>(err: &mut E, line: u32, kind: ScriptKind) -> Result<(), PortError>
-    ensures ok { OnOk result (Appends (E.written err.old) (E.written err.new) (fault_line line kind)) }
-    ensures err { OnErr result (AppendsFront (E.written err.old) (E.written err.new) (fault_line line kind)) }
+    ensures ok { OnOk result (Appends (E.written err.old) (E.written err.new)
+        (fault_line line kind)) }
+    ensures err { OnErr result (AppendsFront (E.written err.old) (E.written err.new)
+        (fault_line line kind)) }
     ensures cause { FailsOnlyBy (E.faults err.old) (E.faults err.new) result }
 {
     match kind {
@@ -95,8 +101,10 @@ fn write_fault<E: Sink>(err: &mut E, line: u32, kind: ScriptKind) -> Result<(), 
 
 /// Writes the line of the fault of a word.
 fn write_bad_word<E: Sink>(err: &mut E, line: u32, word: u32) -> Result<(), PortError>
-    ensures ok { OnOk result (Appends (E.written err.old) (E.written err.new) (fault_line line (BadWord word))) }
-    ensures err { OnErr result (AppendsFront (E.written err.old) (E.written err.new) (fault_line line (BadWord word))) }
+    ensures ok { OnOk result (Appends (E.written err.old) (E.written err.new)
+        (fault_line line (BadWord word))) }
+    ensures err { OnErr result (AppendsFront (E.written err.old) (E.written err.new)
+        (fault_line line (BadWord word))) }
     ensures cause { FailsOnlyBy (E.faults err.old) (E.faults err.new) result }
 {
     let mut line_digits = Buffer::new();
@@ -116,7 +124,8 @@ fn write_bad_word<E: Sink>(err: &mut E, line: u32, word: u32) -> Result<(), Port
 /// Writes the line of `end`, if it has one.
 fn write_end<E: Sink>(err: &mut E, end: &End<'_>) -> Result<(), PortError>
     ensures ok { OnOk result (Appends (E.written err.old) (E.written err.new) (line_of end.now)) }
-    ensures err { OnErr result (AppendsFront (E.written err.old) (E.written err.new) (line_of end.now)) }
+    ensures err { OnErr result (AppendsFront (E.written err.old) (E.written err.new)
+        (line_of end.now)) }
     ensures cause { FailsOnlyBy (E.faults err.old) (E.faults err.new) result }
 {
     match end {
@@ -130,9 +139,13 @@ fn write_end<E: Sink>(err: &mut E, end: &End<'_>) -> Result<(), PortError>
     }
 }
 
-/// Tells `end` to the errors. No memory is taken, and a failure of the errors changes nothing else.
+/// Tells `end` to the errors. No memory is taken, and a failure of the errors changes nothing
+/// else.
 pub fn tell<E: Sink>(err: &mut E, end: &End<'_>)
-    ensures { Tells (told (E.written err.old) (E.faults err.old)) (told (E.written err.new) (E.faults err.new)) (line_of end.now) }
+    ensures { Tells
+        (error_sink (E.written err.old) (E.faults err.old))
+        (error_sink (E.written err.new) (E.faults err.new))
+        (line_of end.now) }
 {
     let _ = write_end(err, end);
 }

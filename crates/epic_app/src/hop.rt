@@ -23,8 +23,10 @@ pub fn hop<'a, S: Store, O: Sink>(
     out: &mut O,
 ) -> End<'a>
     ensures { EndsAs (Hop key.now file.entry.now)
-        (world (S.contents store.old) (S.reads store.old) (S.writes store.old) (O.written out.old) (O.faults out.old))
-        (world (S.contents store.new) (S.reads store.new) (S.writes store.new) (O.written out.new) (O.faults out.new))
+        (world (S.contents store.old) (S.reads store.old) (S.writes store.old)
+        (O.written out.old) (O.faults out.old))
+        (world (S.contents store.new) (S.reads store.new) (S.writes store.new)
+        (O.written out.new) (O.faults out.new))
         result }
 {
     let bytes = match read_whole(alloc, store, file, FILE_LIMIT) {

@@ -14,7 +14,8 @@ pub enum HopAnswer {
     Issued([u8; 16], [u8; 8]),
     /// The field is wrong.
     Refused,
-    /// The field is right, and the command with this number, counted from 1, is the first issue of the body.
+    /// The field is right, and the command with this number, counted from 1, is the first issue of
+    /// the body.
     Proved(u32),
     /// The field is right, and no earlier command issued the body.
     Forged(Body, [u8; 3]),
@@ -39,7 +40,8 @@ fn is_issue_of(body: &Body, command: &HopCommand) -> bool
     }
 }
 
-/// The answer to `command` after the commands `earlier`, which are fewer than 2^32, under the forwarding key `key`.
+/// The answer to `command` after the commands `earlier`, which are fewer than 2^32, under the
+/// forwarding key `key`.
 pub fn answer(key: &[u8; 16], earlier: &[HopCommand], command: &HopCommand) -> HopAnswer
     requires { length earlier.now < 2 ^ 32 }
     ensures { result ≡ answer_of key.now earlier.now command.now }

@@ -23,7 +23,9 @@ pub enum HopCommand {
 
 /// The body that the second word of a line spells in 36 digits.
 fn read_body(text: &[u8]) -> Result<Body, WordsError>
-    ensures { IsByRule (on_bytes 2 (decode_sized text.now 18) (λ bytes. Ok (body_of bytes))) result }
+    ensures { IsByRule
+        (on_bytes 2 (decode_sized text.now 18) (λ bytes. Ok (body_of bytes)))
+        result }
 {
     match <[u8; 18] as FromHex>::from_hex(text) {
         Ok(bytes) => Ok(body_from_bytes(&bytes)),

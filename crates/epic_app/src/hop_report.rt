@@ -4,7 +4,7 @@ ghost use Rattle.std.specs.Prelude.{◌≡◌, ◌+◌, ◌^◌, ◌<◌, ◌≤
 ghost use Rattle.std.specs.String.{string_bytes};
 ghost use Rattle.epic_ports.specs.Written.{Appends, AppendsFront};
 ghost use Rattle.epic_app.specs.declared.hop_answer.HopAnswer.TheVariants.{Issued, Forged};
-ghost use Rattle.epic_app.specs.HopReport.{answers, end_text, is_accept, is_forged, line_text, report_text};
+ghost use Rattle.epic_app.specs.HopReport.{answers, end_text, is_accept, hop_report, is_forged, line_text};
 ghost use Rattle.epic_app.specs.Writing.{WriteFailsBy};
 
 use crate::hop_answer::{HopAnswer, answer};
@@ -20,7 +20,8 @@ fn issued(
     authenticator: &[u8; 16],
     link: &[u8; 8],
 ) -> Result<String, AllocError>
-    ensures { IfOk result (λ text. string_bytes text ≡ line_text number (Issued authenticator.now link.now)) }
+    ensures { IfOk result (λ text. string_bytes text ≡
+        line_text number (Issued authenticator.now link.now)) }
 {
     let authenticator = hex::encode(alloc, authenticator.as_slice())?;
     let link = hex::encode(alloc, link.as_slice())?;
@@ -29,7 +30,8 @@ fn issued(
 
 /// The line of a right field of a body that nobody issued.
 fn forged(alloc: Global, number: usize, body: &Body, field: &[u8; 3]) -> Result<String, AllocError>
-    ensures { IfOk result (λ text. string_bytes text ≡ line_text number (Forged body.now field.now)) }
+    ensures { IfOk result (λ text. string_bytes text ≡
+        line_text number (Forged body.now field.now)) }
 {
     let message = hex::encode(alloc, authenticator_message(body).as_slice())?;
     let field = hex::encode(alloc, field.as_slice())?;
@@ -67,8 +69,10 @@ fn write_line<O: Sink>(
     answer: &HopAnswer,
     out: &mut O,
 ) -> Result<(), PortError>
-    ensures ok { OnOk result (Appends (O.written out.old) (O.written out.new) (line_text number answer.now)) }
-    ensures err { OnErr result (AppendsFront (O.written out.old) (O.written out.new) (line_text number answer.now)) }
+    ensures ok { OnOk result (Appends (O.written out.old) (O.written out.new)
+        (line_text number answer.now)) }
+    ensures err { OnErr result (AppendsFront (O.written out.old) (O.written out.new)
+        (line_text number answer.now)) }
     ensures later { O.faults out.old ≤ O.faults out.new }
     ensures cause { WriteFailsBy (O.faults out.old) (O.faults out.new) result }
 {
@@ -84,8 +88,10 @@ fn write_last_line<O: Sink>(
     forged: usize,
     out: &mut O,
 ) -> Result<(), PortError>
-    ensures ok { OnOk result (Appends (O.written out.old) (O.written out.new) (end_text commands accepted forged)) }
-    ensures err { OnErr result (AppendsFront (O.written out.old) (O.written out.new) (end_text commands accepted forged)) }
+    ensures ok { OnOk result (Appends (O.written out.old) (O.written out.new)
+        (end_text commands accepted forged)) }
+    ensures err { OnErr result (AppendsFront (O.written out.old) (O.written out.new)
+        (end_text commands accepted forged)) }
     ensures later { O.faults out.old ≤ O.faults out.new }
     ensures cause { WriteFailsBy (O.faults out.old) (O.faults out.new) result }
 {
@@ -102,9 +108,11 @@ fn counted(count: usize, more: bool) -> usize
     count + usize::from(more)
 }
 
-/// Writes the report of `commands`, fewer than 2^32, under the forwarding key `key`, each line as it is answered.
+/// Writes the report of `commands`, fewer than 2^32, under the forwarding key `key`, each line as it
+/// is answered.
 ///
-/// Answers whether some check is of a forged field. `PortError::Failed` comes only where `out` counted a failed write.
+/// Answers whether some check is of a forged field. `PortError::Failed` comes only where `out`
+/// counted a failed write.
 pub fn write_report<O: Sink>(
     alloc: Global,
     key: &[u8; 16],
@@ -112,9 +120,12 @@ pub fn write_report<O: Sink>(
     out: &mut O,
 ) -> Result<bool, PortError>
     requires { length commands.now < 2 ^ 32 }
-    ensures ok { OnOk result (Appends (O.written out.old) (O.written out.new) (report_text (answers key.now commands.now))) }
-    ensures forged { IfOk result (λ forged. forged ≡ nat_lt 0 (count_by is_forged (answers key.now commands.now))) }
-    ensures err { OnErr result (AppendsFront (O.written out.old) (O.written out.new) (report_text (answers key.now commands.now))) }
+    ensures ok { OnOk result (Appends (O.written out.old) (O.written out.new)
+        (hop_report key.now commands.now)) }
+    ensures forged { IfOk result (λ forged. forged ≡
+        nat_lt 0 (count_by is_forged (answers key.now commands.now))) }
+    ensures err { OnErr result (AppendsFront (O.written out.old) (O.written out.new)
+        (hop_report key.now commands.now)) }
     ensures later { O.faults out.old ≤ O.faults out.new }
     ensures cause { WriteFailsBy (O.faults out.old) (O.faults out.new) result }
 {

@@ -1,17 +1,17 @@
-//! The program's commands.
+//! The program's commands: one AS of level 0 issues hops and checks their fields.
 #![tactic(auto)]
 
-pub mod end;
-pub mod hop;
-pub mod hop_answer;
-pub mod hop_file;
-pub mod hop_report;
-pub mod lines;
-pub mod script;
-pub mod spelling;
-pub mod tags;
+mod end;
+mod hop;
+mod hop_answer;
+mod hop_file;
+mod hop_report;
+mod lines;
+mod script;
+mod spelling;
+mod tags;
 mod top;
-pub mod words;
+mod words;
 
 pub use top::epic;
 

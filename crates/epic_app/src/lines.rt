@@ -44,7 +44,8 @@ fn line_end(text: &[u8]) -> Option<usize>
     text.iter().position(|&byte| byte == b'\n')
 }
 
-/// The first line of `text`, which isn't empty, with the return that it may have, and the text after it.
+/// The first line of `text`, which isn't empty, with the return that it may have, and the text
+/// after it.
 fn split_line(text: &[u8]) -> (&[u8], &[u8])
     requires { 0 < length text.now }
     ensures parts { parts text.now ≡ result.0.now ∷ parts result.1.now }

@@ -1,15 +1,15 @@
 //! What an AS computes over a hop of its own, under its forwarding key.
 
 ghost use Rattle.std.specs.Prelude.{◌≡◌};
-ghost use Rattle.epic_app.specs.Tags.{field0, link_tag, sigma};
+ghost use Rattle.epic_app.specs.Tags.{field0, link_tag, authenticator};
 
 use epic_cmac::cmac;
 use epic_num::{Body, authenticator_message, link_message};
 
 /// The authenticator of `body` under the forwarding key `key`.
-#[tactic(auto, unfolding(crate::specs::Tags::sigma))]
+#[tactic(auto, unfolding(crate::specs::Tags::authenticator))]
 pub fn authenticator(key: &[u8; 16], body: &Body) -> [u8; 16]
-    ensures { result ≡ sigma key.now body.now }
+    ensures { result ≡ authenticator key.now body.now }
 {
     cmac(key, &authenticator_message(body))
 }

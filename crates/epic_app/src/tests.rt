@@ -62,51 +62,70 @@ fn run_words(
 }
 
 #[test]
-fn files_of_hop(rt: HostRuntime) -> Result<(), Fail> {
-    for (file, status, out, err) in [
+fn reports_of_hop(rt: HostRuntime) -> Result<(), Fail> {
+    for (file, status, out) in [
         // An issue, a right check and one whose last bit is flipped.
         (
-            "issue 013f6553f100000000020000000000000000\ncheck 013f6553f100000000020000000000000000 f58348\ncheck 013f6553f100000000020000000000000000 f58349\n",
+            "issue 013f6553f100000000020000000000000000\n\
+            check 013f6553f100000000020000000000000000 f58348\n\
+            check 013f6553f100000000020000000000000000 f58349\n",
             0,
-            "1 issue f58348e54bebdb3d58d500f00adf3841 ce0eda92f139a1d5\n2 accept proved 1\n3 refuse\nend 3 accepted 1 forged 0\n",
-            "",
+            "1 issue f58348e54bebdb3d58d500f00adf3841 ce0eda92f139a1d5\n2 accept proved 1\n3 refuse\n\
+            end 3 accepted 1 forged 0\n",
         ),
         // A check before its issue, then two issues, the first of which is named.
         (
-            "#\ncheck 013f6553f100000000020000000000000000 f58348\nissue 013f6553f100000000020000000000000000\nissue 013f6553f100000000020000000000000000\ncheck 013f6553f100000000020000000000000000 f58348",
+            "#\ncheck 013f6553f100000000020000000000000000 f58348\n\
+            issue 013f6553f100000000020000000000000000\n\
+            issue 013f6553f100000000020000000000000000\n\
+            check 013f6553f100000000020000000000000000 f58348",
             1,
-            "1 accept forged 01013f6553f100000000020000000000000000 f58348\n2 issue f58348e54bebdb3d58d500f00adf3841 ce0eda92f139a1d5\n3 issue f58348e54bebdb3d58d500f00adf3841 ce0eda92f139a1d5\n4 accept proved 2\nend 4 accepted 2 forged 1\n",
-            "",
+            "1 accept forged 01013f6553f100000000020000000000000000 f58348\n\
+            2 issue f58348e54bebdb3d58d500f00adf3841 ce0eda92f139a1d5\n\
+            3 issue f58348e54bebdb3d58d500f00adf3841 ce0eda92f139a1d5\n\
+            4 accept proved 2\nend 4 accepted 2 forged 1\n",
         ),
-        // Returns, blanks, comments and digits of either case.
+        // Returns, blanks, a comment and digits of either case.
         (
             "\t\r\n#x\r\n check\t013F6553f100000000020000000000000000  F58348 \r",
             1,
-            "1 accept forged 01013f6553f100000000020000000000000000 f58348\nend 1 accepted 1 forged 1\n",
-            "",
+            "1 accept forged 01013f6553f100000000020000000000000000 f58348\n\
+            end 1 accepted 1 forged 1\n",
         ),
-        ("", 0, "end 0 accepted 0 forged 0\n", ""),
-        ("jump", 4, "", "epic: script 1 unknown-verb\n"),
-        ("issue 01\n# \u{e9}", 4, "", "epic: script 1 bad-word 2\n"),
-        ("\n# \u{e9}\njump", 4, "", "epic: script 2 not-text\n"),
-        ("issue\r\r\n", 4, "", "epic: script 1 not-text\n"),
-        ("\nissue 0 1", 4, "", "epic: script 2 word-count\n"),
+        ("", 0, "end 0 accepted 0 forged 0\n"),
+    ] {
+        let run = run_words(
+            &rt,
+            rt.alloc(),
+            &["hop", KEY, "f"],
+            file.as_bytes(),
+            NO_FAULTS,
+        )?;
+        assert_eq!(rt; run.out.written(), out.as_bytes(), "{file}");
+        assert_eq!(rt; run.err.written(), b"".as_slice(), "{file}");
+        assert_eq!(rt; run.status, status, "{file}");
+    }
+    Ok(())
+}
+
+#[test]
+fn files_that_are_refused(rt: HostRuntime) -> Result<(), Fail> {
+    for (file, err) in [
+        ("jump", "epic: script 1 unknown-verb\n"),
+        ("issue 01\n# \u{e9}", "epic: script 1 bad-word 2\n"),
+        ("\n# \u{e9}\njump", "epic: script 2 not-text\n"),
+        ("issue\r\r\n", "epic: script 1 not-text\n"),
+        ("\nissue 0 1", "epic: script 2 word-count\n"),
         (
             "issue 013f6553f10000000002000000000000000",
-            4,
-            "",
             "epic: script 1 bad-word 2\n",
         ),
         (
             "check 013f6553f100000000020000000000000000 f5834",
-            4,
-            "",
             "epic: script 1 bad-word 3\n",
         ),
         (
             "check 013f6553f100000000020000000000000000 f5834g",
-            4,
-            "",
             "epic: script 1 bad-word 3\n",
         ),
     ] {
@@ -117,9 +136,9 @@ fn files_of_hop(rt: HostRuntime) -> Result<(), Fail> {
             file.as_bytes(),
             NO_FAULTS,
         )?;
-        assert_eq!(rt; run.out.written(), out.as_bytes(), "{file}");
+        assert_eq!(rt; run.out.written(), b"".as_slice(), "{file}");
         assert_eq!(rt; run.err.written(), err.as_bytes(), "{file}");
-        assert_eq!(rt; run.status, status, "{file}");
+        assert_eq!(rt; run.status, 4, "{file}");
     }
     Ok(())
 }
@@ -161,8 +180,8 @@ fn files_at_the_limit(rt: HostRuntime) -> Result<(), Fail> {
 #[test]
 fn calls_that_fail(rt: HostRuntime) -> Result<(), Fail> {
     let file = b"check 013f6553f100000000020000000000000000 f58348";
-    let report =
-        "1 accept forged 01013f6553f100000000020000000000000000 f58348\nend 1 accepted 1 forged 1\n";
+    let report = "1 accept forged 01013f6553f100000000020000000000000000 f58348\n\
+        end 1 accepted 1 forged 1\n";
     for (faults, status, out, err) in [
         (
             Faults {

@@ -3,7 +3,7 @@
 ghost use Rattle.std.specs.Prelude.{map};
 ghost use Rattle.std.specs.String.{string_bytes};
 ghost use Rattle.epic_app.specs.End.{Performs};
-ghost use Rattle.epic_app.specs.Outcome.{Ends, ReportHolds, told, world};
+ghost use Rattle.epic_app.specs.Outcome.{Ends, ReportHolds, error_sink, world};
 ghost use Rattle.epic_app.specs.Request.{request_of};
 
 use crate::end::{End, tell};
@@ -20,8 +20,10 @@ fn perform<'a, S: Store, O: Sink>(
     out: &mut O,
 ) -> End<'a>
     ensures { Performs (request_of (map string_bytes words.entry.now))
-        (world (S.contents store.old) (S.reads store.old) (S.writes store.old) (O.written out.old) (O.faults out.old))
-        (world (S.contents store.new) (S.reads store.new) (S.writes store.new) (O.written out.new) (O.faults out.new))
+        (world (S.contents store.old) (S.reads store.old) (S.writes store.old)
+        (O.written out.old) (O.faults out.old))
+        (world (S.contents store.new) (S.reads store.new) (S.writes store.new)
+        (O.written out.new) (O.faults out.new))
         result }
 {
     match hop_words(words) {
@@ -30,11 +32,12 @@ fn perform<'a, S: Store, O: Sink>(
     }
 }
 
-/// Does what the words after the program's name ask for, over a store of files, an output and a sink for errors, and
-/// answers the status of the process.
+/// Does what the words after the program's name ask for, over a store of files, an output and a sink
+/// for errors, and answers the status of the process.
 ///
-/// 0: the run was done, and no check was forged; 1: some check was. 2: the words are no command. 4: the script is
-/// refused. 6: a read failed. 7: a write failed. 8: memory was wanting. The errors get the line of the status.
+/// 0: the run was done, and no check was forged; 1: some check was. 2: the words are no command.
+/// 4: the file is refused. 6: a read failed. 7: a write failed. 8: memory was wanting. The errors get
+/// the line of the status.
 pub fn epic<S: Store, O: Sink, E: Sink>(
     alloc: Global,
     words: &[String],
@@ -42,19 +45,23 @@ pub fn epic<S: Store, O: Sink, E: Sink>(
     out: &mut O,
     err: &mut E,
 ) -> u8
-    // Each accepted field that the report calls proved has an earlier issue of its body, each that it calls forged is right
-    // and has none, and each refused field is wrong.
+    // Each `accept proved K` names an earlier issue of that body, each `accept forged` is a right
+    // field of a body that no earlier line issued, and each refused field is wrong.
     ensures report_holds { ReportHolds (map string_bytes words.now)
-        (world (S.contents store.old) (S.reads store.old) (S.writes store.old) (O.written out.old) (O.faults out.old))
-        (world (S.contents store.new) (S.reads store.new) (S.writes store.new) (O.written out.new) (O.faults out.new))
+        (world (S.contents store.old) (S.reads store.old) (S.writes store.old)
+        (O.written out.old) (O.faults out.old))
+        (world (S.contents store.new) (S.reads store.new) (S.writes store.new)
+        (O.written out.new) (O.faults out.new))
         result }
 
     // The exact report, the cause of each status, the line on the errors, and what stays.
     ensures ends { Ends (map string_bytes words.now)
-        (world (S.contents store.old) (S.reads store.old) (S.writes store.old) (O.written out.old) (O.faults out.old))
-        (world (S.contents store.new) (S.reads store.new) (S.writes store.new) (O.written out.new) (O.faults out.new))
-        (told (E.written err.old) (E.faults err.old))
-        (told (E.written err.new) (E.faults err.new))
+        (world (S.contents store.old) (S.reads store.old) (S.writes store.old)
+        (O.written out.old) (O.faults out.old))
+        (world (S.contents store.new) (S.reads store.new) (S.writes store.new)
+        (O.written out.new) (O.faults out.new))
+        (error_sink (E.written err.old) (E.faults err.old))
+        (error_sink (E.written err.new) (E.faults err.new))
         result }
 {
     let end = perform(alloc, words, store, out);

@@ -2,7 +2,7 @@
 
 ghost use Rattle.std.specs.Prelude.{◌≡◌, map, MatchOption, None, Some};
 ghost use Rattle.std.specs.String.{string_bytes};
-ghost use Rattle.epic_app.specs.Request.{Hop, request_of};
+ghost use Rattle.epic_app.specs.Request.{Hop, hop_of};
 
 use hex::FromHex;
 
@@ -15,9 +15,12 @@ pub struct HopWords<'a> {
     pub file: &'a str,
 }
 
-/// The words `hop KEY FILE`, KEY being 32 hexadecimal digits. `None` where the words are others. No memory is taken.
+/// The words `hop KEY FILE`, KEY being 32 hexadecimal digits. `None` where the words are others.
+/// No memory is taken.
 pub fn hop_words(words: &[String]) -> Option<HopWords<'_>>
-    ensures { MatchOption result (request_of (map string_bytes words.entry.now) ≡ None) (λ hop. request_of (map string_bytes words.entry.now) ≡ Some (Hop hop.key hop.file.now)) }
+    ensures { MatchOption result
+        (hop_of (map string_bytes words.entry.now) ≡ None)
+        (λ hop. hop_of (map string_bytes words.entry.now) ≡ Some (Hop hop.key hop.file.now)) }
 {
     let [command, key, file] = words else {
         return None;

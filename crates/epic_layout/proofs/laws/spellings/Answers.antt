@@ -1,0 +1,11 @@
+use Rattle.epic_layout.proofs.OneSpelling.{packets_are_spelled, spellings_are_one, packets_are_one}
+use Rattle.epic_layout.proofs.SamePacket.{valid_packets_are_one}
+use Rattle.epic_layout.proofs.laws.spellings.Goals as goal
+
+pub returns : goal.returns
+returns c = record {
+  spelled = packets_are_spelled;
+  one_spelling = spellings_are_one;
+  one_packet = packets_are_one;
+  one_value = valid_packets_are_one;
+}

@@ -1,0 +1,12 @@
+//! Packets read and edited where they lie.
+#![tactic(auto)]
+
+mod editing;
+mod frame;
+mod packet_ref;
+mod packet_view;
+mod places;
+mod reading;
+
+pub use packet_ref::PacketRef;
+pub use packet_view::PacketView;

@@ -1,0 +1,196 @@
+ghost use Rattle.std.specs.Prelude.{◌≡◌, ◌<◌, ◌↔◌, IsTrue, length, slice_index_or};
+ghost use Rattle.epic_num.specs.Levels.{is_first_byte};
+ghost use Rattle.epic_layout.specs.Contents as contents;
+ghost use Rattle.epic_layout.specs.Contents.{hop_count, as_field};
+ghost use Rattle.epic_layout.specs.Route.{place, no_segment};
+ghost use Rattle.epic_layout.specs.Spelling.{segment_bytes, hop_bytes, path_bytes};
+ghost use Rattle.epic_layout.specs.Route as route;
+ghost use Rattle.epic_layout.specs.Layout.{parse, fault, or_fault};
+ghost use Rattle.epic_view.specs.View.{IsView};
+
+use crate::frame::{Frame, frame_of};
+use crate::{places, reading};
+use epic_layout::{Shape, check, u64_at};
+use epic_num::{Body, Field, HostId, LayoutError};
+use std::marker::Model;
+
+/// A packet that is read where its bytes lie. Contracts see it as what the bytes say.
+#[derive(Drop)]
+pub struct PacketRef<'a> {
+    bytes: &'a [u8],
+    frame: Frame,
+}
+
+impl<'a> Model for PacketRef<'a> {
+    ghost use Rattle.epic_layout.specs.Contents.{Contents};
+    ghost use Rattle.epic_layout.specs.Layout.{parse};
+    ghost use Rattle.epic_view.specs.View.{IsView};
+
+    ghost Value = { Contents };
+
+    ghost view = { λ p. parse p.bytes.now };
+
+    ghost invariant = { λ p. IsView p.bytes.now p.frame };
+}
+
+#[tactic(auto, using(epic_layout::proofs::Parsed::parsed), unfolding(epic_layout::specs::Layout::parse))]
+impl<'a> PacketRef<'a> {
+    /// The packet of bytes without a fault, or their first fault.
+    #[tactic(auto, using(epic_layout::proofs::Soundness::checked))]
+    pub fn look(bytes: &'a [u8]) -> Result<PacketRef<'a>, LayoutError>
+        ensures { result ≡ or_fault (fault is_first_byte bytes.now) (parse bytes.now) }
+    {
+        let shape = check(bytes)?;
+        Ok(PacketRef {
+            bytes,
+            frame: frame_of(bytes, shape),
+        })
+    }
+
+    /// The view of bytes whose frame is known.
+    pub(crate) fn of(bytes: &'a [u8], frame: Frame) -> PacketRef<'a>
+        requires { IsView bytes.now frame }
+        ensures { result ≡ parse bytes.now }
+    {
+        PacketRef { bytes, frame }
+    }
+
+    /// Version and level: 0xE0 to 0xE3, 0xF2 or 0xF3.
+    pub fn first_byte(&self) -> u8
+        ensures { result ≡ self.now.first }
+    {
+        self.bytes[0]
+    }
+
+    pub fn shape(&self) -> Shape
+        ensures { result ≡ contents.shape self.now }
+    {
+        self.frame.shape
+    }
+
+    /// The index of the current hop, from 0, and the number of hops at the end of the path.
+    pub fn current(&self) -> u8
+        ensures { result ≡ self.now.current }
+    {
+        self.bytes[7]
+    }
+
+    pub fn src(&self) -> HostId
+        ensures { result ≡ self.now.src }
+    {
+        reading::host(self.bytes, 8, 24)
+    }
+
+    pub fn dst(&self) -> HostId
+        ensures { result ≡ self.now.dst }
+    {
+        reading::host(self.bytes, 16, 28)
+    }
+
+    /// The timestamp, in microseconds.
+    pub fn ts(&self) -> u64
+        ensures { result ≡ self.now.ts }
+    {
+        u64_at(self.bytes, 32)
+    }
+
+    /// The hop as its AS authenticates it.
+    pub fn body(&self, hop: u8) -> Body
+        requires { hop < hop_count self.now }
+        ensures { result ≡ route.body self.now.route hop }
+    {
+        reading::body(self.bytes, self.frame, hop)
+    }
+
+    /// The hop's field: 3 bytes in version 1, 6 in version 2.
+    pub fn field(&self, hop: u8) -> Field
+        requires { hop < hop_count self.now }
+        ensures { result ≡ as_field (contents.field self.now hop) }
+    {
+        reading::field(self.bytes, self.frame, hop)
+    }
+
+    /// The number of the hop's segment, from 0.
+    pub fn segment_of(&self, hop: u8) -> u8
+        requires { hop < hop_count self.now }
+        ensures { result ≡ (place self.now.route.segments hop).segment }
+    {
+        places::place_at(self.bytes, self.frame, hop).segment
+    }
+
+    /// The hop is the first of its segment in travel order.
+    pub fn is_first(&self, hop: u8) -> bool
+        requires { hop < hop_count self.now }
+        ensures { result ≡ route.is_first (place self.now.route.segments hop) }
+    {
+        places::is_first(places::place_at(self.bytes, self.frame, hop))
+    }
+
+    /// The hop is the last of its segment in travel order.
+    pub fn is_last(&self, hop: u8) -> bool
+        requires { hop < hop_count self.now }
+        ensures { result ≡ route.is_last (place self.now.route.segments hop) }
+    {
+        places::is_last(places::place_at(self.bytes, self.frame, hop))
+    }
+
+    /// The interface by which the packet comes to the hop.
+    pub fn ingress(&self, hop: u8) -> u16
+        requires { hop < hop_count self.now }
+        ensures { result ≡ route.ingress self.now.route hop }
+    {
+        reading::ingress(self.bytes, self.frame, hop)
+    }
+
+    /// The interface by which the packet leaves the hop.
+    pub fn egress(&self, hop: u8) -> u16
+        requires { hop < hop_count self.now }
+        ensures { result ≡ route.egress self.now.route hop }
+    {
+        reading::egress(self.bytes, self.frame, hop)
+    }
+
+    /// The hop of the same segment that comes next in construction order.
+    pub fn successor(&self, hop: u8) -> Option<u8>
+        requires { hop < hop_count self.now }
+        ensures { result ≡ route.successor (place self.now.route.segments hop) hop }
+    {
+        places::successor(places::place_at(self.bytes, self.frame, hop), hop)
+    }
+
+    /// The path bytes of the two packets are the same: segment headers, and hops without their fields.
+    pub fn same_path(&self, other: &PacketRef<'_>) -> bool
+        ensures { IsTrue result ↔ (path_bytes self.now.route ≡ path_bytes other.now.route) }
+    {
+        reading::same_path(self.bytes, self.frame, other.bytes, other.frame)
+    }
+
+    /// The 8 bytes of a segment's header, which stand in the path bytes.
+    pub fn segment_head(&self, segment: u8) -> [u8; 8]
+        requires { segment < length self.now.route.segments }
+        ensures { result ≡ segment_bytes (slice_index_or self.now.route.segments segment no_segment) }
+    {
+        reading::segment_head(self.bytes, self.frame, segment)
+    }
+
+    /// The 13 bytes of a hop without its field, which stand in the path bytes.
+    pub fn hop_head(&self, hop: u8) -> [u8; 13]
+        requires { hop < hop_count self.now }
+        ensures { result ≡ hop_bytes (route.hop self.now.route hop) }
+    {
+        reading::hop_head(self.bytes, self.frame, hop)
+    }
+
+    /// The destination field, and zeros at levels 0 and 1.
+    pub fn dest_field(&self) -> [u8; 16]
+        ensures { result ≡ self.now.dest_field }
+    {
+        reading::dest_field(self.bytes, self.frame)
+    }
+
+    pub fn payload(&self) -> &'a [u8]
+        ensures { result.now ≡ self.now.payload }
+    {
+        &self.bytes[self.frame.shape.header as usize..]
+    }
+}
