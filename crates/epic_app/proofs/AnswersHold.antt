@@ -11,7 +11,7 @@ use Rattle.epic_num.proofs.SameLaws.{same_body-Decides}
 use Rattle.epic_app.specs.declared.hop_file.HopCommand.{HopCommand}
 use Rattle.epic_app.specs.declared.hop_file.HopCommand.TheVariants.{Issue, Check}
 use Rattle.epic_app.specs.declared.hop_answer.HopAnswer.TheVariants.{Refused}
-use Rattle.epic_app.specs.Tags.{authenticator, field0}
+use Rattle.epic_fields.specs.Formulas.{authenticator, field0}
 use Rattle.epic_app.specs.HopReport.{is_issue_of, accepted, answer_of, answers_after, Holds, AllHold}
 
 past_none : (k n : ℕ) → cond (ltb k n) (Some k) None ≡ None → n ≤ k

@@ -9,7 +9,7 @@ use Rattle.epic_app.specs.declared.hop_file.HopCommand.{HopCommand}
 use Rattle.epic_app.specs.declared.hop_file.HopCommand.TheVariants.{Issue, Check}
 use Rattle.epic_app.specs.declared.hop_answer.HopAnswer.{HopAnswer}
 use Rattle.epic_app.specs.declared.hop_answer.HopAnswer.TheVariants.{Issued, Refused, Proved, Forged}
-use Rattle.epic_app.specs.Tags.{authenticator, link_tag, field0}
+use Rattle.epic_fields.specs.Formulas.{authenticator, link_tag, field0}
 
 abbrev pub is_issue_of : Body → HopCommand → Bool
 is_issue_of body (Issue issued) = same_body issued body

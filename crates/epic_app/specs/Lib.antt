@@ -6,5 +6,4 @@ pub mod Outcome
 pub mod Request
 pub mod Script
 pub mod Spelling
-pub mod Tags
 pub mod Writing

@@ -4,7 +4,7 @@ ghost use Rattle.std.specs.Prelude.{◌≡◌, ◌≤◌, ◌<◌, ◌^◌, leng
 ghost use Rattle.epic_app.specs.HopReport.{answer_of, is_accept, is_forged, is_issue_of};
 
 use crate::hop_file::HopCommand;
-use crate::tags::{authenticator, field0, link_tag};
+use epic_fields::{authenticator, field0, link_tag};
 use epic_num::{Body, same_body};
 
 /// What a line of the file of `hop` is answered.

@@ -9,7 +9,6 @@ mod hop_report;
 mod lines;
 mod script;
 mod spelling;
-mod tags;
 mod top;
 mod words;
 
