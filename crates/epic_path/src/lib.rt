@@ -1,0 +1,8 @@
+//! Paths: segments joined in turn, and all lawful paths between two ASes.
+#![tactic(auto)]
+
+mod ends;
+mod joining;
+
+pub use epic_num::PathError;
+pub use joining::{end_of, join};
