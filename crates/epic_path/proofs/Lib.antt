@@ -1,2 +1,4 @@
+pub mod FindsLaws
 pub mod JoinLemmas
+pub mod LinkLaws
 pub mod WalkLaws

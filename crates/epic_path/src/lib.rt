@@ -3,6 +3,10 @@
 
 mod ends;
 mod joining;
+mod links;
+mod paths_error;
+mod search;
 
 pub use epic_num::PathError;
 pub use joining::{end_of, join};
+pub use paths_error::PathsError;
