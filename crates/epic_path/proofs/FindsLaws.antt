@@ -1,5 +1,5 @@
 -- How the parts of a search put what they find together.
-use Rattle.std.proofs.Common.{◌≡◌, ℕ, ◌+◌, ◌<◌, ◌≤◌, List, [], ◌∷◌, ◌++◌, length, get_or, take, drop, Option, Some, None, Result, Ok, Err, refl, sym, ap, ◌∙◌, append_assoc, append-nil, length-append, arith}
+use Rattle.std.proofs.Common.{◌≡◌, ℕ, ◌+◌, ◌<◌, ◌≤◌, List, [], ◌∷◌, ◌++◌, length, get_or, take, drop, Some, None, Err, refl, sym, ap, ◌∙◌, append_assoc, append-nil, length-append, arith}
 use Rattle.std.specs.Prelude.{flat_map, filter_map}
 use Rattle.std.specs.List.{cons_option}
 use Rattle.std.specs.Option.{option_map_or}
@@ -48,7 +48,6 @@ module _ {X : Type 0} (all : List X → List PathRef) (joins : (xs ys : List X) 
 
 pub flat_map_one : {X Y : Type 0} (f : X → List Y) (x : X) → f x ≡ flat_map f (x ∷ [])
 flat_map_one f x = sym (append-nil (f x))
-
 
 pub over_ups-append : (f : Link → List PathRef) (from : AsId) (xs ys : List Segment) → flat_map f (up_links (xs ++ ys) from) ≡ flat_map f (up_links xs from) ++ flat_map f (up_links ys from)
 unfolding up_links

@@ -1,6 +1,6 @@
 -- The links over a segment, by its kind and its ends.
-use Rattle.std.proofs.Common.{◌≡◌, ℕ, suc, ◌+◌, ◌-◌, ◌<◌, Bool, true, false, cond, ◌&&◌, List, [], ◌∷◌, ◌++◌, length, map, get_or, take, Option, Some, None, refl, sym, ap, ◌∙◌, append-nil, arith}
-use Rattle.std.specs.Prelude.{not, nat_le, option_map, unwrap_or, option_and_then, slice_get, filter, filter_map}
+use Rattle.std.proofs.Common.{◌≡◌, ℕ, suc, ◌+◌, ◌-◌, ◌<◌, Bool, true, false, cond, List, [], ◌∷◌, ◌++◌, length, map, get_or, take, Option, Some, None, refl, sym, ap, ◌∙◌, append-nil, arith}
+use Rattle.std.specs.Prelude.{not, option_and_then, slice_get, filter, filter_map}
 use Rattle.std.specs.List.{list_any, cons_option}
 use Rattle.std.proofs.lemmas.Bool.{and_parts, leb-true}
 use Rattle.std.proofs.lemmas.List.{get_or-map, length-map, take_more}
@@ -15,7 +15,7 @@ use Rattle.epic_num.specs.declared.segment.SegKind.{SegKind}
 use Rattle.epic_num.specs.declared.segment.SegKind.TheVariants.{Core, Child}
 use Rattle.epic_num.specs.Same.{same_as}
 use Rattle.epic_num.specs.Segments.{first_as, last_as, first_hop, last_hop, are_different, is_well_formed}
-use Rattle.epic_num.specs.Paths.{LegKind, UpLeg, CoreLeg, DownLeg, kind_of, end_of}
+use Rattle.epic_num.specs.Paths.{LegKind, kind_of, end_of}
 use Rattle.epic_num.proofs.SameLaws.{same_as-Decides}
 use Rattle.epic_path.specs.declared.links.Link.{Link}
 use Rattle.epic_path.specs.Joins.{leg_from}
@@ -31,13 +31,13 @@ ends_apart (a ∷ b ∷ hops) long apart =
     let last = length hops in
     let short : last < length (b ∷ hops) = omega arith in
     let reads : slice_get (a ∷ b ∷ hops) (length (a ∷ b ∷ hops) - 1) ≡ Some (get_or (b ∷ hops) last a) =
-        ap (slice_get (a ∷ b ∷ hops)) (let n : length (a ∷ b ∷ hops) - 1 ≡ suc last = omega arith in n) ∙ slice_get-get_or (a ∷ b ∷ hops) (suc last) a (omega arith) in
+    ap (slice_get (a ∷ b ∷ hops)) (let n : length (a ∷ b ∷ hops) - 1 ≡ suc last = omega arith in n) ∙ slice_get-get_or (a ∷ b ∷ hops) (suc last) a (omega arith) in
     let others = and_parts (not (list_any (λ c. same_as a.asn c) (map (λ h. h.asn) (b ∷ hops)))) _ apart in
     let P : Bool → Type 0 = λ r. same_as a.asn (get_or (b ∷ hops) last a).asn ≡ r → r ≡ false in
     rw reads ((elim (same_as a.asn (get_or (b ∷ hops) last a).asn) as P [
-        true ↦ λ same.
-            let found = list_any_at (λ c. same_as a.asn c) (map (λ h. h.asn) (b ∷ hops)) last a.asn (rw length-map (omega arith)) (rw (get_or-map (λ h. h.asn) (b ∷ hops) last a a.asn short) same) in
-            absurd (cc (others.0))
+      | true ↦ λ same.
+          let found = list_any_at (λ c. same_as a.asn c) (map (λ h. h.asn) (b ∷ hops)) last a.asn (rw length-map (omega arith)) (rw (get_or-map (λ h. h.asn) (b ∷ hops) last a a.asn short) same) in
+          absurd (cc (others.0))
       | false ↦ λ other. refl
     ]) refl)
 
@@ -71,7 +71,7 @@ at_one_end : (a b at : AsId) → same_as a b ≡ false → same_as a at ≡ true
 at_one_end a b at apart here =
     let P : Bool → Type 0 = λ r. same_as b at ≡ r → r ≡ false in
     (elim (same_as b at) as P [
-        true ↦ λ there. absurd (let both = (same_as-Decides a b).1 ((same_as-Decides a at).0 here ∙ sym ((same_as-Decides b at).0 there)) in cc)
+      | true ↦ λ there. absurd (let both = (same_as-Decides a b).1 ((same_as-Decides a at).0 here ∙ sym ((same_as-Decides b at).0 there)) in cc)
       | false ↦ λ other. refl
     ]) refl
 

@@ -1,5 +1,5 @@
 -- Sums over lists that are made of others.
-use Rattle.std.proofs.Common.{◌≡◌, ℕ, ◌+◌, Bool, true, false, cond, List, [], ◌∷◌, ◌++◌, map, Option, Some, None, refl, sym, ap, ◌∙◌, arith}
+use Rattle.std.proofs.Common.{◌≡◌, ℕ, ◌+◌, Bool, true, false, cond, List, [], ◌∷◌, map, Option, Some, None, refl, sym, ◌∙◌, arith}
 use Rattle.std.specs.Prelude.{sum_by, filter, filter_map, flat_map}
 use Rattle.std.specs.List.{cons_option}
 use Rattle.std.specs.Option.{option_map_or}
@@ -26,7 +26,7 @@ module _ {X : Type 0} where
   sum_by-filter f p (x ∷ xs) =
       let T : Bool → Type 0 = λ b. sum_by f (cond b (x ∷ filter p xs) (filter p xs)) ≡ cond b (f x) 0 + sum_by (λ y. cond (p y) (f y) 0) xs in
       (elim (p x) as T [
-          true ↦ omega (arith, sum_by-cons f x (filter p xs), sum_by-filter f p xs)
+        | true ↦ omega (arith, sum_by-cons f x (filter p xs), sum_by-filter f p xs)
         | false ↦ omega (arith, sum_by-filter f p xs)
       ])
       ∙ sym (sum_by-cons (λ y. cond (p y) (f y) 0) x xs)
@@ -46,7 +46,7 @@ module _ {X Y : Type 0} (f : Y → ℕ) where
   sum_by-filter_map g (x ∷ xs) =
       let T : Option Y → Type 0 = λ o. sum_by f (cons_option o (filter_map g xs)) ≡ option_map_or f o 0 + sum_by (λ y. option_map_or f (g y) 0) xs in
       (elim (g x) as T [
-          None ↦ omega (arith, sum_by-filter_map g xs)
+        | None ↦ omega (arith, sum_by-filter_map g xs)
         | Some y ↦ omega (arith, sum_by-cons f y (filter_map g xs), sum_by-filter_map g xs)
       ])
       ∙ sym (sum_by-cons (λ y. option_map_or f (g y) 0) x xs)

@@ -36,11 +36,11 @@ module _ (f : PathRef → ℕ) (to : AsId) (segments : List Segment) where
       let B : Leg → Bool → Type 0 = λ leg b. sum_by (λ r. cond b (each leg r) 0) (lists_up_to n segments) ≡ cond b (sum_by (each leg) (lists_up_to n segments)) 0 in
       sum_by-map (worth f to k p at) (λ r. s ∷ r) (lists_up_to n segments)
       ∙ (elim (leg_from at s) as T [
-          None ↦ sum_by_nothing (λ r. 0) (λ r. refl) (lists_up_to n segments)
+        | None ↦ sum_by_nothing (λ r. 0) (λ r. refl) (lists_up_to n segments)
         | Some leg ↦ elim (nat_lt k (rank (kind_over leg))) as (B leg) [
-              true ↦ refl
-            | false ↦ sum_by_nothing (λ r. 0) (λ r. refl) (lists_up_to n segments)
-          ]
+          | true ↦ refl
+          | false ↦ sum_by_nothing (λ r. 0) (λ r. refl) (lists_up_to n segments)
+        ]
       ])
 
   total_none : (k : ℕ) (p : PathRef) (at : AsId) → total 0 k p at ≡ ending f to p at
@@ -62,9 +62,9 @@ module _ (f : PathRef → ℕ) (to : AsId) (segments : List Segment) where
   unfolding link_from link_to
   split n k p at s part nothing each =
       let T : Option Leg → Type 0 = λ o. leg_from at s ≡ o → option_map_or (over_leg n k p s) o 0
-          ≡ part (λ is. option_and_then (λ (leg : Leg). cond (is (kind_of leg.segment.kind leg.against)) (Some (link_to (end_of leg) leg.segment)) None) o) in
+      ≡ part (λ is. option_and_then (λ (leg : Leg). cond (is (kind_of leg.segment.kind leg.against)) (Some (link_to (end_of leg) leg.segment)) None) o) in
       (elim (leg_from at s) as T [
-          None ↦ λ e. sym nothing
+        | None ↦ λ e. sym nothing
         | Some leg ↦ λ e. subst (λ t. over_leg n k p t leg ≡ part (λ is. cond (is (kind_of leg.segment.kind leg.against)) (Some (link_to (end_of leg) leg.segment)) None)) ((leg_from_is at s leg e).over) (each (kind_over leg) (link_to (end_of leg) leg.segment))
       ]) refl
 
@@ -127,14 +127,14 @@ module _ (f : PathRef → ℕ) (to : AsId) (segments : List Segment) where
   total_up n p at =
       total_more n 1 p at
       ∙ ap (λ m. ending f to p at + m) (sum_by_agree _ _ (λ s. split n 1 p at s (λ g. on (by_link n 2 p) (g is_core) + on (by_link n 3 p) (g is_down)) refl (up_kinds n p)
-          ∙ ap (λ m. on (by_link n 2 p) (link_from is_core at s) + m) (each_down n p (link_from is_down at s))) segments
+      ∙ ap (λ m. on (by_link n 2 p) (link_from is_core at s) + m) (each_down n p (link_from is_down at s))) segments
       ∙ sum_by_plus _ _ segments)
 
   total_first : (n : ℕ) (p : PathRef) (at : AsId) → total (suc n) 0 p at ≡ ending f to p at + (ups n p at + (cores n p at + downs p at))
   total_first n p at =
       total_more n 0 p at
       ∙ ap (λ m. ending f to p at + m) (sum_by_agree _ _ (λ s. split n 0 p at s (λ g. on (by_link n 1 p) (g is_up) + (on (by_link n 2 p) (g is_core) + on (by_link n 3 p) (g is_down))) refl (first_kinds n p)
-          ∙ ap (λ m. on (by_link n 1 p) (link_from is_up at s) + (on (by_link n 2 p) (link_from is_core at s) + m)) (each_down n p (link_from is_down at s))) segments
+      ∙ ap (λ m. on (by_link n 1 p) (link_from is_up at s) + (on (by_link n 2 p) (link_from is_core at s) + m)) (each_down n p (link_from is_down at s))) segments
       ∙ sum_by_plus _ _ segments
       ∙ ap (λ m. ups n p at + m) (sum_by_plus _ _ segments))
 
@@ -148,11 +148,11 @@ module _ (f : PathRef → ℕ) (to : AsId) (segments : List Segment) where
       let T : Option Leg → Type 0 = λ o. option_map_or (λ leg. cond (nat_lt k (rank (kind_over leg))) (worth f to (rank (kind_over leg)) (grown p s) (end_of leg) r) 0) o 0 ≡ 0 in
       let B : Leg → Bool → Type 0 = λ leg b. cond b (worth f to (rank (kind_over leg)) (grown p s) (end_of leg) r) 0 ≡ 0 in
       elim (leg_from at s) as T [
-          None ↦ refl
+        | None ↦ refl
         | Some leg ↦ elim (nat_lt k (rank (kind_over leg))) as (B leg) [
-              true ↦ worthless (rank (kind_over leg)) (grown p s) (end_of leg) r longer
-            | false ↦ refl
-          ]
+          | true ↦ worthless (rank (kind_over leg)) (grown p s) (end_of leg) r longer
+          | false ↦ refl
+        ]
       ]
 
   by_extension : (n k : ℕ) (p : PathRef) (l : Link) → by_link n k p l ≡ option_map_or (λ q. total n k q l.end) (extended p l) 0
@@ -160,7 +160,7 @@ module _ (f : PathRef → ℕ) (to : AsId) (segments : List Segment) where
   by_extension n k p l =
       let T : Bool → Type 0 = λ b. nat_le (p.hops + l.hops) 32 ≡ b → by_link n k p l ≡ option_map_or (λ q. total n k q l.end) (cond b (Some (grown_by p l)) None) 0 in
       (elim (nat_le (p.hops + l.hops) 32) as T [
-          true ↦ λ e. refl
+        | true ↦ λ e. refl
         | false ↦ λ e. sum_by_nothing (worth f to k (grown_by p l) l.end) (λ r. worthless k (grown_by p l) l.end r e) (lists_up_to n segments)
       ]) refl
 
@@ -177,7 +177,7 @@ module _ (f : PathRef → ℕ) (to : AsId) (segments : List Segment) where
       let T : Bool → Type 0 = λ b. nat_le (p.hops + l.hops) 32 ≡ b → option_map_or (λ q. sum_by f (rest q l.end)) (cond b (Some (grown_by p l)) None) 0 ≡ option_map_or (λ q. total n k q l.end) (cond b (Some (grown_by p l)) None) 0 in
       onward_sum rest p l
       ∙ (elim (nat_le (p.hops + l.hops) 32) as T [
-          true ↦ λ e. same (grown_by p l) l.end e
+        | true ↦ λ e. same (grown_by p l) l.end e
         | false ↦ λ e. refl
       ]) refl
       ∙ sym (by_extension n k p l)
@@ -198,7 +198,7 @@ module _ (f : PathRef → ℕ) (to : AsId) (segments : List Segment) where
       let T : Bool → Bool → Type 0 = λ a b. cond b (option_map_or (λ q. sum_by f (q ∷ [])) (cond a (Some (grown_by p l)) None) 0) 0 ≡ cond (a && b) (f (grown_by p l)) 0 in
       ap (λ m. cond (same_as l.end to) m 0) one
       ∙ (elim (nat_le (p.hops + l.hops) 32) as (λ a. T a (same_as l.end to)) [
-          true ↦ elim (same_as l.end to) as (T true) [ true ↦ sum_by_one f (grown_by p l) | false ↦ refl ]
+        | true ↦ elim (same_as l.end to) as (T true) [ true ↦ sum_by_one f (grown_by p l) | false ↦ refl ]
         | false ↦ elim (same_as l.end to) as (T false) [ true ↦ refl | false ↦ refl ]
       ])
 
@@ -207,10 +207,10 @@ module _ (f : PathRef → ℕ) (to : AsId) (segments : List Segment) where
   finished_sum p at short =
       let links = filter_map (link_from is_down at) segments in
       let over : sum_by f (flat_map (onward (λ q end. q ∷ []) p) (filter (λ l. same_as l.end to) links)) ≡ downs p at =
-          sum_by-flat_map f (onward (λ q end. q ∷ []) p) (filter (λ l. same_as l.end to) links)
-          ∙ sum_by-filter (λ l. sum_by f (onward (λ q end. q ∷ []) p l)) (λ l. same_as l.end to) links
-          ∙ sum_by-filter_map (λ l. cond (same_as l.end to) (sum_by f (onward (λ q end. q ∷ []) p l)) 0) (link_from is_down at) segments
-          ∙ sum_by_agree _ _ (λ s. last_sum p (link_from is_down at s)) segments in
+      sum_by-flat_map f (onward (λ q end. q ∷ []) p) (filter (λ l. same_as l.end to) links)
+      ∙ sum_by-filter (λ l. sum_by f (onward (λ q end. q ∷ []) p l)) (λ l. same_as l.end to) links
+      ∙ sum_by-filter_map (λ l. cond (same_as l.end to) (sum_by f (onward (λ q end. q ∷ []) p l)) 0) (link_from is_down at) segments
+      ∙ sum_by_agree _ _ (λ s. last_sum p (link_from is_down at s)) segments in
       omega (arith, sum_by-append f (arrived to p at) (flat_map (onward (λ q end. q ∷ []) p) (filter (λ l. same_as l.end to) links)), arrived_sum p at short, over)
 
   finished_total : (n : ℕ) (p : PathRef) (at : AsId) → nat_le p.hops 32 ≡ true → sum_by f (finished (last_links to segments) to p at) ≡ total (suc n) 2 p at
@@ -222,9 +222,9 @@ module _ (f : PathRef → ℕ) (to : AsId) (segments : List Segment) where
       let end = finished (last_links to segments) to in
       let links = filter_map (link_from is_core at) segments in
       let over : sum_by f (flat_map (onward end p) links) ≡ cores (suc n) p at =
-          sum_by-flat_map f (onward end p) links
-          ∙ sum_by_agree _ _ (λ l. onward_agree end (suc n) 2 (finished_total n) p l) links
-          ∙ sum_by-filter_map (by_link (suc n) 2 p) (link_from is_core at) segments in
+      sum_by-flat_map f (onward end p) links
+      ∙ sum_by_agree _ _ (λ l. onward_agree end (suc n) 2 (finished_total n) p l) links
+      ∙ sum_by-filter_map (by_link (suc n) 2 p) (link_from is_core at) segments in
       omega (arith, sum_by-append f (end p at) (flat_map (onward end p) links), finished_sum p at short, over)
 
   crossed_total : (n : ℕ) (p : PathRef) (at : AsId) → nat_le p.hops 32 ≡ true → sum_by f (crossed (core_links segments) (last_links to segments) to p at) ≡ total (suc (suc n)) 1 p at
@@ -236,9 +236,9 @@ module _ (f : PathRef → ℕ) (to : AsId) (segments : List Segment) where
       let cross = crossed (core_links segments) (last_links to segments) to in
       let links = filter_map (link_from is_up from) segments in
       let over : sum_by f (flat_map (onward cross no_path) links) ≡ ups 2 no_path from =
-          sum_by-flat_map f (onward cross no_path) links
-          ∙ sum_by_agree _ _ (λ l. onward_agree cross 2 1 (crossed_total 0) no_path l) links
-          ∙ sum_by-filter_map (by_link 2 1 no_path) (link_from is_up from) segments in
+      sum_by-flat_map f (onward cross no_path) links
+      ∙ sum_by_agree _ _ (λ l. onward_agree cross 2 1 (crossed_total 0) no_path l) links
+      ∙ sum_by-filter_map (by_link 2 1 no_path) (link_from is_up from) segments in
       omega (arith, sum_by-append f (cross no_path from) (flat_map (onward cross no_path) links), crossed_sum 1 no_path from refl, over, total_first 2 no_path from)
 
 -- sums over short lists agree where short lists do
@@ -248,9 +248,9 @@ agree_short zero segments f g e = omega (arith, e [] (omega arith))
 agree_short (suc n) segments f g e =
     let rest = flat_map (λ s. map (λ r. s ∷ r) (lists_up_to n segments)) segments in
     let same : sum_by f rest ≡ sum_by g rest =
-        sum_by-flat_map f (λ s. map (λ r. s ∷ r) (lists_up_to n segments)) segments
-        ∙ sum_by_agree _ _ (λ s. sum_by-map f (λ r. s ∷ r) (lists_up_to n segments) ∙ agree_short n segments (λ r. f (s ∷ r)) (λ r. g (s ∷ r)) (λ r h. e (s ∷ r) (omega arith)) ∙ sym (sum_by-map g (λ r. s ∷ r) (lists_up_to n segments))) segments
-        ∙ sym (sum_by-flat_map g (λ s. map (λ r. s ∷ r) (lists_up_to n segments)) segments) in
+    sum_by-flat_map f (λ s. map (λ r. s ∷ r) (lists_up_to n segments)) segments
+    ∙ sum_by_agree _ _ (λ s. sum_by-map f (λ r. s ∷ r) (lists_up_to n segments) ∙ agree_short n segments (λ r. f (s ∷ r)) (λ r. g (s ∷ r)) (λ r h. e (s ∷ r) (omega arith)) ∙ sym (sum_by-map g (λ r. s ∷ r) (lists_up_to n segments))) segments
+    ∙ sym (sum_by-flat_map g (λ s. map (λ r. s ∷ r) (lists_up_to n segments)) segments) in
     omega (arith, sum_by-cons f [] rest, sum_by-cons g [] rest, e [] (omega arith), same)
 
 -- the search finds the names of the routes that lead, each as often as there are such routes

@@ -1,7 +1,7 @@
 -- What the routes from an AS are worth: each path over a list of segments counts as much as a function of its name says.
 -- The search and the definition are compared by this.
-use Rattle.std.proofs.Common.{◌≡◌, ℕ, zero, suc, ◌+◌, ◌-◌, ◌<◌, ◌≤◌, Bool, true, false, cond, ◌&&◌, List, [], ◌∷◌, ◌++◌, length, map, Option, Some, None, Result, Ok, Err, refl, sym, ap, ◌∙◌, subst, append_assoc, append-nil, arith}
-use Rattle.std.specs.Prelude.{not, nat_lt, nat_le, sum_by, flat_map, option_map, unwrap_or, slice_get}
+use Rattle.std.proofs.Common.{◌≡◌, ℕ, suc, ◌+◌, ◌-◌, ◌<◌, ◌≤◌, Bool, true, false, cond, ◌&&◌, List, [], ◌∷◌, ◌++◌, length, map, Option, Some, None, Result, Ok, Err, refl, sym, ap, ◌∙◌, append_assoc, append-nil, arith}
+use Rattle.std.specs.Prelude.{not, nat_lt, nat_le, option_map, unwrap_or, slice_get}
 use Rattle.std.specs.Option.{option_map_or}
 use Rattle.std.specs.Result.{result_map_both}
 use Rattle.std.proofs.lemmas.Bool.{le-leb}
@@ -12,7 +12,7 @@ use Rattle.epic_num.specs.declared.path_ref.PathRef.{PathRef}
 use Rattle.epic_num.specs.declared.segment.Leg.{Leg}
 use Rattle.epic_num.specs.declared.segment.Segment.{Segment}
 use Rattle.epic_num.specs.declared.path_error.PathError.{PathError}
-use Rattle.epic_num.specs.declared.path_error.PathError.TheVariants.{Empty, TooLong, Unjoined, WrongKind}
+use Rattle.epic_num.specs.declared.path_error.PathError.TheVariants.{TooLong, Unjoined, WrongKind}
 use Rattle.epic_num.specs.Same.{same_as}
 use Rattle.epic_num.specs.Paths.{LegKind, UpLeg, CoreLeg, DownLeg, are_lawful_kinds, kind_of, end_of, path_end}
 use Rattle.epic_path.specs.Joins.{leg_from, walk, hops_of, are_short, of_lawful_kinds, joined}
@@ -85,9 +85,9 @@ module _ (f : PathRef → ℕ) (to : AsId) where
       ap (λ n. cond (nat_le n 32 && same_as at to) (f p) 0) hops
   worth_of_walk k p at i (s ∷ r) =
       let T : Option Leg → Type 0 = λ o. option_map_or (λ leg. cond (nat_lt k (rank (kind_over leg))) (worth f to (rank (kind_over leg)) (grown p s) (end_of leg) r) 0) o 0
-          ≡ of_walk k p at (s ∷ r) (option_map_or (λ leg. result_map_both (λ legs. leg ∷ legs) (λ e. e) (walk (end_of leg) (i + 1) r)) o (Err (Unjoined i))) in
+      ≡ of_walk k p at (s ∷ r) (option_map_or (λ leg. result_map_both (λ legs. leg ∷ legs) (λ e. e) (walk (end_of leg) (i + 1) r)) o (Err (Unjoined i))) in
       elim (leg_from at s) as T [
-          None ↦ refl
+        | None ↦ refl
         | Some leg ↦ ap (λ n. cond (nat_lt k (rank (kind_over leg))) n 0) (worth_of_walk (rank (kind_over leg)) (grown p s) (end_of leg) (i + 1) r)
             ∙ of_walk_more k p at s r leg (walk (end_of leg) (i + 1) r)
       ]
@@ -185,6 +185,6 @@ module _ (f : PathRef → ℕ) (from to : AsId) (apart : same_as from to ≡ fal
       let W : Result (List Leg) PathError → Type 0 = λ w. walk from 0 (s ∷ r) ≡ w → of_walk f to 0 no_path from (s ∷ r) w ≡ of_route (s ∷ r) w in
       worth_of_walk f to 0 no_path from 0 (s ∷ r)
       ∙ (elim (walk from 0 (s ∷ r)) as W [
-          Ok legs ↦ λ e. at_ok s r legs short e
+        | Ok legs ↦ λ e. at_ok s r legs short e
         | Err x ↦ λ e. at_err (s ∷ r) x
       ]) refl

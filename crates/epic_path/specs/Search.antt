@@ -4,7 +4,6 @@ use Rattle.std.specs.Option.{option_map_or}
 use Rattle.std.specs.Ordering.{nat_cmp}
 use Rattle.std.specs.BTreeMap.{get}
 use Rattle.epic_num.specs.declared.name.AsId.{AsId}
-use Rattle.epic_num.specs.declared.segment.Leg.{Leg}
 use Rattle.epic_num.specs.declared.segment.Segment.{Segment}
 use Rattle.epic_num.specs.declared.path_ref.PathRef.{PathRef}
 use Rattle.epic_num.specs.Same.{same_as}

@@ -1,5 +1,5 @@
 //! The search for the paths to one AS.
-ghost use Rattle.std.specs.Prelude.{◌≡◌, [], ◌∷◌, ◌++◌, ◌+◌, ◌<◌, All, IfOk, IfSome, IsTrue, OnOk, flat_map, length};
+ghost use Rattle.std.specs.Prelude.{◌≡◌, [], ◌∷◌, ◌++◌, ◌+◌, ◌<◌, ◌≤◌, All, IfOk, IfSome, IsTrue, OnOk, flat_map, length};
 ghost use Rattle.epic_num.specs.Segments.{is_well_formed};
 ghost use Rattle.epic_path.specs.Search.{Finds, arrived, climbed, core_links, crossed, extended, finished, last_links, links_at, no_path, onward, up_links};
 
@@ -90,7 +90,12 @@ impl Search {
         Ok(())
     }
 
-    pub fn new(alloc: Global, segments: &[Segment], to: AsId, most: u32) -> Result<Search, AllocError>
+    pub fn new(
+        alloc: Global,
+        segments: &[Segment],
+        to: AsId,
+        most: u32,
+    ) -> Result<Search, AllocError>
         requires { All (λ s. IsTrue (is_well_formed s)) segments.now }
         ensures to { IfOk result (λ search. search.to ≡ to) }
         ensures most { IfOk result (λ search. search.most ≡ most) }
@@ -111,7 +116,9 @@ impl Search {
 
     /// Keeps a path that was found.
     fn keep(&self, found: &mut Vec<PathRef>, path: PathRef) -> Result<(), PathsError>
-        ensures { Finds self.now.most found.old.items (path ∷ []) found.new.items result }
+        requires room { length found.old.items ≤ self.now.most }
+        ensures finds { Finds self.now.most found.old.items (path ∷ []) found.new.items result }
+        ensures fits { OnOk result (length found.new.items ≤ self.now.most) }
     {
         if found.len() >= self.most as usize {
             return Err(PathsError::TooMany);
@@ -125,7 +132,9 @@ impl Search {
     /// Finds `path`, which has come to `at`, if that is where paths end.
     #[tactic(auto, unfolding(epic_num::specs::Same::same_as, crate::specs::Search::arrived))]
     fn arrive(&self, found: &mut Vec<PathRef>, path: &PathRef, at: AsId) -> Result<(), PathsError>
-        ensures { Finds self.now.most found.old.items (arrived self.now.to path.now at) found.new.items result }
+        requires room { length found.old.items ≤ self.now.most }
+        ensures finds { Finds self.now.most found.old.items (arrived self.now.to path.now at) found.new.items result }
+        ensures fits { OnOk result (length found.new.items ≤ self.now.most) }
     {
         if at == self.to {
             self.keep(found, copy_of(path))
@@ -136,9 +145,16 @@ impl Search {
 
     /// Finds the path that goes on from `path` over `down`, and ends there.
     #[tactic(auto, unfolding(crate::specs::Search::onward))]
-    fn finish_over(&self, found: &mut Vec<PathRef>, path: &PathRef, down: &Link) -> Result<(), PathsError>
-        requires { length path.now.issues.items < 3 }
-        ensures { Finds self.now.most found.old.items (onward (λ p end. p ∷ []) path.now down.now) found.new.items result }
+    fn finish_over(
+        &self,
+        found: &mut Vec<PathRef>,
+        path: &PathRef,
+        down: &Link,
+    ) -> Result<(), PathsError>
+        requires legs { length path.now.issues.items < 3 }
+        requires room { length found.old.items ≤ self.now.most }
+        ensures finds { Finds self.now.most found.old.items (onward (λ p end. p ∷ []) path.now down.now) found.new.items result }
+        ensures fits { OnOk result (length found.new.items ≤ self.now.most) }
     {
         match extended(path, down) {
             Some(longer) => self.keep(found, longer),
@@ -148,9 +164,11 @@ impl Search {
 
     /// Finds the paths that begin with `path`, which has come to `at`, and end there or over a link down from there.
     fn finish(&self, found: &mut Vec<PathRef>, path: &PathRef, at: AsId) -> Result<(), PathsError>
-        requires { length path.now.issues.items < 3 }
-        ensures { Finds self.now.most found.old.items (finished (links_at self.now.downs) self.now.to path.now at)
+        requires legs { length path.now.issues.items < 3 }
+        requires room { length found.old.items ≤ self.now.most }
+        ensures finds { Finds self.now.most found.old.items (finished (links_at self.now.downs) self.now.to path.now at)
             found.new.items result }
+        ensures fits { OnOk result (length found.new.items ≤ self.now.most) }
     {
         self.arrive(found, path, at)?;
         for down in self.downs.at(at) {
@@ -160,10 +178,17 @@ impl Search {
     }
 
     #[tactic(auto, unfolding(crate::specs::Search::onward))]
-    fn cross_over(&self, found: &mut Vec<PathRef>, path: &PathRef, core: &Link) -> Result<(), PathsError>
-        requires { length path.now.issues.items < 2 }
-        ensures { Finds self.now.most found.old.items
+    fn cross_over(
+        &self,
+        found: &mut Vec<PathRef>,
+        path: &PathRef,
+        core: &Link,
+    ) -> Result<(), PathsError>
+        requires legs { length path.now.issues.items < 2 }
+        requires room { length found.old.items ≤ self.now.most }
+        ensures finds { Finds self.now.most found.old.items
             (onward (finished (links_at self.now.downs) self.now.to) path.now core.now) found.new.items result }
+        ensures fits { OnOk result (length found.new.items ≤ self.now.most) }
     {
         match extended(path, core) {
             Some(longer) => self.finish(found, &longer, core.end),
@@ -173,9 +198,11 @@ impl Search {
 
     /// As `finish`, and also over a core link before that.
     fn cross(&self, found: &mut Vec<PathRef>, path: &PathRef, at: AsId) -> Result<(), PathsError>
-        requires { length path.now.issues.items < 2 }
-        ensures { Finds self.now.most found.old.items
+        requires legs { length path.now.issues.items < 2 }
+        requires room { length found.old.items ≤ self.now.most }
+        ensures finds { Finds self.now.most found.old.items
             (crossed (links_at self.now.cores) (links_at self.now.downs) self.now.to path.now at) found.new.items result }
+        ensures fits { OnOk result (length found.new.items ≤ self.now.most) }
     {
         self.finish(found, path, at)?;
         for core in self.cores.at(at) {
@@ -185,11 +212,18 @@ impl Search {
     }
 
     /// As `cross`, from the start of a path over the link up of one segment, if it has one.
-    fn climb_over(&self, found: &mut Vec<PathRef>, segment: &Segment, from: AsId) -> Result<(), PathsError>
-        requires { IsTrue (is_well_formed segment.now) }
-        ensures { Finds self.now.most found.old.items
+    fn climb_over(
+        &self,
+        found: &mut Vec<PathRef>,
+        segment: &Segment,
+        from: AsId,
+    ) -> Result<(), PathsError>
+        requires formed { IsTrue (is_well_formed segment.now) }
+        requires room { length found.old.items ≤ self.now.most }
+        ensures finds { Finds self.now.most found.old.items
             (flat_map (onward (crossed (links_at self.now.cores) (links_at self.now.downs) self.now.to) no_path)
             (up_links (segment.now ∷ []) from)) found.new.items result }
+        ensures fits { OnOk result (length found.new.items ≤ self.now.most) }
     {
         let Some(up) = up_link(from, segment) else {
             return Ok(());
@@ -201,11 +235,18 @@ impl Search {
     }
 
     /// Finds the paths from `from`, in no order.
-    pub fn climb(&self, found: &mut Vec<PathRef>, segments: &[Segment], from: AsId) -> Result<(), PathsError>
-        requires { All (λ s. IsTrue (is_well_formed s)) segments.now }
-        ensures { Finds self.now.most found.old.items
+    pub fn climb(
+        &self,
+        found: &mut Vec<PathRef>,
+        segments: &[Segment],
+        from: AsId,
+    ) -> Result<(), PathsError>
+        requires formed { All (λ s. IsTrue (is_well_formed s)) segments.now }
+        requires room { length found.old.items ≤ self.now.most }
+        ensures finds { Finds self.now.most found.old.items
             (climbed (up_links segments.now from) (links_at self.now.cores) (links_at self.now.downs) from self.now.to)
             found.new.items result }
+        ensures fits { OnOk result (length found.new.items ≤ self.now.most) }
     {
         self.cross(found, &no_path(), from)?;
         for segment in segments {

@@ -1,4 +1,4 @@
-use Rattle.std.proofs.Common.{sym, ap, ◌∙◌, Some}
+use Rattle.std.proofs.Common.{sym, ◌∙◌}
 use Rattle.epic_num.specs.Same.{same_as}
 use Rattle.epic_path.proofs.LinkLaws.{no_up_link, up_here, up_elsewhere}
 use Rattle.epic_path.proofs.links.up_link.Goals as goal

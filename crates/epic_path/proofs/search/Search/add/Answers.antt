@@ -1,4 +1,4 @@
-use Rattle.std.proofs.Common.{◌≡◌, [], ◌∷◌, ◌++◌, cond, sym, ◌∙◌, append_assoc, append-nil}
+use Rattle.std.proofs.Common.{[], ◌∷◌, cond, sym, ◌∙◌, append_assoc, append-nil}
 use Rattle.epic_num.specs.Same.{same_as}
 use Rattle.epic_path.specs.Search.{links_at}
 use Rattle.epic_path.proofs.LinkLaws.{core_links_of, no_core_links, no_last_links, down_added, down_missing}
