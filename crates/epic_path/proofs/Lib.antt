@@ -5,3 +5,5 @@ pub mod WalkLaws
 pub mod SumLaws
 pub mod Worth
 pub mod Totals
+pub mod OrderLaws
+pub mod PathsLaws

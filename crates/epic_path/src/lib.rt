@@ -4,9 +4,11 @@
 mod ends;
 mod joining;
 mod links;
+mod paths;
 mod paths_error;
 mod search;
 
 pub use epic_num::PathError;
 pub use joining::{end_of, join};
+pub use paths::all_paths;
 pub use paths_error::PathsError;
