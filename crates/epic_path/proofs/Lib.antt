@@ -7,3 +7,4 @@ pub mod Worth
 pub mod Totals
 pub mod OrderLaws
 pub mod PathsLaws
+pub mod EveryPath

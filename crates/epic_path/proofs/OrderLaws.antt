@@ -52,7 +52,7 @@ less_at_most Less e = refl
 less_at_most Equal e = absurd (cc)
 less_at_most Greater e = absurd (cc)
 
-at_most_itself : (p : PathRef) → AtMost p p
+pub at_most_itself : (p : PathRef) → AtMost p p
 at_most_itself p = ap is_gt (tied_itself path_total p)
 
 equal_between : (r : Ordering) → is_gt r ≡ false → is_lt r ≡ false → r ≡ Equal
@@ -60,7 +60,7 @@ equal_between Less g l = absurd (cc)
 equal_between Equal g l = refl
 equal_between Greater g l = absurd (cc)
 
-same_from_at_most : (p q : PathRef) → AtMost p q → AtMost q p → p ≡ q
+pub same_from_at_most : (p q : PathRef) → AtMost p q → AtMost q p → p ≡ q
 same_from_at_most p q pq qp =
     path_tie p q (equal_between (path_cmp p q) pq (ap is_lt (path_total.antisymm p q) ∙ turned_back (path_cmp q p) ∙ qp))
 
@@ -138,15 +138,15 @@ ascends_from_sorted (p ∷ ps) up = (
 abbrev pub is_path : PathRef → PathRef → ℕ
 is_path p q = cond (is_eq (path_cmp p q)) 1 0
 
-equal_from_is_eq : (r : Ordering) → is_eq r ≡ true → r ≡ Equal
+pub equal_from_is_eq : (r : Ordering) → is_eq r ≡ true → r ≡ Equal
 equal_from_is_eq Less e = absurd (cc)
 equal_from_is_eq Equal e = refl
 equal_from_is_eq Greater e = absurd (cc)
 
-is_path_itself : (p : PathRef) → is_path p p ≡ 1
+pub is_path_itself : (p : PathRef) → is_path p p ≡ 1
 is_path_itself p = ap (λ r. cond (is_eq r) 1 0) (tied_itself path_total p)
 
-below_each : (p q : PathRef) (ps : List PathRef) → Below p ps → 0 < sum_by (is_path q) ps → AtMost p q
+pub below_each : (p q : PathRef) (ps : List PathRef) → Below p ps → 0 < sum_by (is_path q) ps → AtMost p q
 below_each p q [] below some = absurd (omega arith)
 below_each p q (r ∷ rs) below some =
     let T : Bool → Type 0 = λ b. is_eq (path_cmp q r) ≡ b → 0 < cond b 1 0 + sum_by (is_path q) rs → AtMost p q in
@@ -155,7 +155,7 @@ below_each p q (r ∷ rs) below some =
       | false ↦ λ e some'. below_each p q rs below.1 (omega arith)
     ]) refl (omega (arith, sum_by-cons (is_path q) r rs))
 
-first_of : (p q : PathRef) (ps : List PathRef) → Below p ps → 0 < sum_by (is_path q) (p ∷ ps) → AtMost p q
+pub first_of : (p q : PathRef) (ps : List PathRef) → Below p ps → 0 < sum_by (is_path q) (p ∷ ps) → AtMost p q
 first_of p q ps below some = below_each p q (p ∷ ps) (at_most_itself p, below) some
 
 pub same_in_order : (ps qs : List PathRef) → Ascends ps → Ascends qs → ((f : PathRef → ℕ) → sum_by f ps ≡ sum_by f qs) → ps ≡ qs

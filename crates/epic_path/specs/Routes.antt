@@ -1,8 +1,10 @@
 -- All lawful paths between two ASes.
-use Rattle.std.specs.Prelude.{ℕ, zero, suc, Bool, false, not, ◌&&◌, List, [], ◌∷◌, map, filter, flat_map, Result, Ok, Err, if◌then◌else◌}
+use Rattle.std.specs.Prelude.{◌≡◌, All, Contains, IsTrue, length, ℕ, zero, suc, Bool, false, not, ◌&&◌, List, [], ◌∷◌, map, filter, flat_map, Result, Ok, Err, if◌then◌else◌}
 use Rattle.std.specs.declared.cmp.Ordering.{Ordering}
+use Rattle.std.specs.declared.cmp.Ordering.TheVariants.{Less}
 use Rattle.std.specs.Ordering.{nat_cmp, ordering_then, is_lt}
 use Rattle.std.specs.Cmp.Lexicographic.{slice_cmp}
+use Rattle.std.specs.List.{AllAdjacentBelow}
 use Rattle.std.specs.Option.{option_map_or}
 use Rattle.epic_num.specs.declared.name.AsId.{AsId}
 use Rattle.epic_num.specs.declared.segment.Leg.{Leg}
@@ -51,3 +53,16 @@ in_order (p ∷ ps) = placed p (in_order ps)
 -- each list of at most three of the segments that leads from one AS to another, by name and in order
 unfoldable pub all_lawful : List Segment → AsId → AsId → List PathRef
 all_lawful segments from to = in_order (map named (filter (leads from to) (lists_up_to 3 segments)))
+
+-- a list of the segments that leads from one AS to another, and has this name
+pub record IsPathOf (segments : List Segment) (from to : AsId) (path : PathRef) : Type 0 where
+  pub route : List Segment
+  pub over : All (Contains segments) route
+  pub goes : IsTrue (leads from to route)
+  pub name : named route ≡ path
+
+-- the paths are those of every list of the segments that leads from one AS to another, each once, in order, and no other
+pub record IsEveryPath (segments : List Segment) (from to : AsId) (paths : List PathRef) : Type 0 where
+  pub every : (route : List Segment) → All (Contains segments) route → IsTrue (leads from to route) → Contains paths (named route)
+  pub no_other : All (IsPathOf segments from to) paths
+  pub ordered : AllAdjacentBelow (λ p q. path_cmp p q ≡ Less) paths (length paths)

@@ -39,9 +39,9 @@ pub fn leg_end(leg: &Leg) -> AsId
 fn copy_of(segment: &Segment) -> Segment
     ensures { result ≡ segment.now }
 {
-    let mut hops = ArrayVec::new();
-    // What fits one segment fits another.
-    let _ = hops.try_extend_from_slice(segment.hops.as_slice());
+    let Ok(hops) = ArrayVec::try_from(segment.hops.as_slice()) else {
+        unreachable!()
+    };
     Segment {
         kind: segment.kind,
         hops,

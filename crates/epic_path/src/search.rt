@@ -16,8 +16,9 @@ const MOST_HOPS: u32 = 32;
 fn copy_of(path: &PathRef) -> PathRef
     ensures { result ≡ path.now }
 {
-    let mut issues = ArrayVec::new();
-    let _ = issues.try_extend_from_slice(path.issues.as_slice());
+    let Ok(issues) = ArrayVec::try_from(path.issues.as_slice()) else {
+        unreachable!()
+    };
     PathRef {
         issues,
         hops: path.hops,
