@@ -7,4 +7,6 @@ pub mod Worth
 pub mod Totals
 pub mod OrderLaws
 pub mod PathsLaws
+pub mod RouteCounts
+pub mod RisingLists
 pub mod EveryPath

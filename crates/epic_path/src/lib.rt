@@ -10,5 +10,5 @@ mod search;
 
 pub use epic_num::PathError;
 pub use joining::{end_of, join};
-pub use paths::all_paths;
+pub use paths::{all_paths, every_path_is_one_list};
 pub use paths_error::PathsError;

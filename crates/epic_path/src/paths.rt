@@ -1,8 +1,11 @@
-ghost use Rattle.std.specs.Prelude.{◌≡◌, ◌<◌, ◌≤◌, All, Err, IfOk, IsTrue, OnOk, length, map, nat_eq};
+ghost use Rattle.std.specs.Prelude.{◌≡◌, ◌<◌, ◌≤◌, All, Err, IfOk, IsTrue, List, OnOk, length, map, nat_eq};
 ghost use Rattle.std.specs.List.{IsDistinct};
 ghost use Rattle.std.specs.List.Sorted.{IsPermutation, IsSorted};
+ghost use Rattle.epic_num.specs.declared.name.AsId.{AsId};
+ghost use Rattle.epic_num.specs.declared.path_ref.PathRef.{PathRef};
+ghost use Rattle.epic_num.specs.declared.segment.Segment.{Segment};
 ghost use Rattle.epic_num.specs.Segments.{is_well_formed};
-ghost use Rattle.epic_path.specs.Routes.{all_lawful, last_issue, path_cmp};
+ghost use Rattle.epic_path.specs.Routes.{IsEveryPath, all_lawful, last_issue, path_cmp};
 
 use crate::paths_error::PathsError;
 use crate::search::Search;
@@ -39,6 +42,7 @@ pub fn all_paths(
     requires well_formed { All (λ s. IsTrue (is_well_formed s)) segments.now }
     requires distinct { IsDistinct nat_eq (map last_issue segments.now) }
     ensures ok { IfOk result (λ paths. paths ≡ all_lawful segments.now from to) }
+    ensures every_path { IfOk result (IsEveryPath segments.now from to) }
     ensures fits { OnOk result (length (all_lawful segments.now from to) ≤ most) }
     ensures too_many { result ≡ Err PathsError.TooMany → most < length (all_lawful segments.now from to) }
 {
@@ -51,3 +55,9 @@ pub fn all_paths(
     sort(&mut found);
     Ok(PathList::from_vec(found))
 }
+
+/// One list of paths alone is every path, each once and in order.
+pub fn every_path_is_one_list()
+    ensures { (segments : List Segment) (from to : AsId) (paths others : List PathRef)
+        → IsEveryPath segments from to paths → IsEveryPath segments from to others → paths ≡ others }
+{}
