@@ -10,3 +10,4 @@ pub mod PathsLaws
 pub mod RouteCounts
 pub mod RisingLists
 pub mod EveryPath
+pub mod ConditionLaws

@@ -1,6 +1,6 @@
 -- The legs of a walk make a lawful path, where their kinds go together.
 use Rattle.std.proofs.Common.{◌≡◌, ℕ, ◌+◌, ◌≤◌, Bool, true, false, cond, ◌&&◌, List, [], ◌∷◌, length, map, Option, Some, None, Result, Ok, Err, All, refl, sym, ap, ◌∙◌, subst, arith}
-use Rattle.std.specs.Prelude.{IsTrue, ◌==◌, nat_le, sum_by}
+use Rattle.std.specs.Prelude.{IsTrue, ◌==◌, nat_le, option_map, slice_get, sum_by, unwrap_or}
 use Rattle.std.specs.List.{list_all}
 use Rattle.std.specs.Option.{option_map_or}
 use Rattle.std.specs.Result.{result_map_both}
@@ -14,7 +14,7 @@ use Rattle.epic_num.specs.declared.path_error.PathError.{PathError}
 use Rattle.epic_num.specs.declared.path_error.PathError.TheVariants.{Empty, TooLong, Unjoined, WrongKind}
 use Rattle.epic_num.specs.Same.{same_as}
 use Rattle.epic_num.specs.Segments.{first_as, last_as, is_well_formed}
-use Rattle.epic_num.specs.Paths.{are_lawful_kinds, are_joined, kind_of, meets, end_of, start_of, hop_count, is_lawful}
+use Rattle.epic_num.specs.Paths.{are_lawful_kinds, are_joined, kind_of, meets, end_of, start_of, hop_count, is_lawful, path_start}
 use Rattle.epic_num.proofs.SameLaws.{same_as-Decides}
 use Rattle.epic_path.specs.Joins.{leg_from, walk, hops_of, are_short, of_lawful_kinds, joined}
 
@@ -64,6 +64,15 @@ walked_segments at i (s ∷ rest) legs e =
     let b = began at i s rest legs e in
     let more = walked_segments (end_of b.leg) (i + 1) rest b.more b.then in
     subst (λ ls. map (λ l. l.segment) ls ≡ s ∷ rest) (sym b.is) (λ j. (leg_from_is at s b.leg b.first).over j ∷ more j)
+
+-- a walk over some segments starts where it was asked to
+pub walked_start : (at : AsId) (i : ℕ) (segments : List Segment) (legs : List Leg) → (length segments ≡ 0 → ⊥) → walk at i segments ≡ Ok legs → path_start legs ≡ at
+unfolding path_start
+walked_start at i [] legs some e = absurd (some refl)
+walked_start at i (s ∷ rest) legs some e =
+    let b = began at i s rest legs e in
+    let here : start_of b.leg ≡ at = (same_as-Decides (start_of b.leg) at).0 (leg_from_is at s b.leg b.first).starts in
+    subst (λ ls. unwrap_or (option_map start_of (slice_get ls 0)) (record { 0 = 0 }) ≡ at) (sym b.is) here
 
 -- legs of a walk from an AS meet, and go on from a leg that ends there
 pub record Meeting (at : AsId) (legs : List Leg) : Type 0 where

@@ -1,8 +1,8 @@
-ghost use Rattle.std.specs.Prelude.{◌≡◌, ◌≤◌, [], ◌∷◌, IsTrue, All, length, map};
+ghost use Rattle.std.specs.Prelude.{◌≡◌, ◌≤◌, [], ◌∷◌, IsTrue, All, IfOk, length, map};
 ghost use Rattle.std.specs.Bool.{OnTrue};
 ghost use Rattle.std.specs.Result.{result_map_both};
 ghost use Rattle.epic_num.specs.Segments.{is_well_formed};
-ghost use Rattle.epic_num.specs.Paths.{are_lawful_kinds, kind_of, path_end};
+ghost use Rattle.epic_num.specs.Paths.{are_lawful_kinds, kind_of, path_end, path_start};
 ghost use Rattle.epic_path.specs.Joins.{are_short, hops_of, joined, legs_of, walk};
 
 use crate::ends::{leg_end, leg_from};
@@ -81,7 +81,9 @@ fn are_lawful_kinds(legs: &[Leg]) -> bool
 /// The path from `from` over the segments in turn, or the first reason why there is none. It takes no memory.
 pub fn join(from: AsId, segments: &[Segment]) -> Result<Path, PathError>
     requires { All (λ s. IsTrue (is_well_formed s)) segments.now }
-    ensures { legs_of result ≡ joined from segments.now }
+    ensures joined { legs_of result ≡ joined from segments.now }
+    ensures over { IfOk result (λ path. map (λ l. l.segment) path.legs.items ≡ segments.now) }
+    ensures start { IfOk result (λ path. path_start path.legs.items ≡ from) }
 {
     if segments.is_empty() {
         return Err(PathError::Empty);

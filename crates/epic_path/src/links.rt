@@ -21,7 +21,7 @@ pub struct Link {
 }
 
 #[tactic(auto, unfolding(epic_num::specs::Segments::last_hop, crate::specs::Routes::last_issue))]
-fn last_issue(segment: &Segment) -> u32
+pub fn last_issue(segment: &Segment) -> u32
     ensures { result ≡ last_issue segment.now }
 {
     segment.hops.last().map_or(0, |hop| hop.issue)
