@@ -1,16 +1,14 @@
 -- Equal messages are made over the same.
-use Rattle.std.proofs.Common.{◌≡◌, ℕ, ◌<◌, ◌^◌, List, [], ◌∷◌, ◌++◌, length, refl, sym, ◌∙◌, ap, subst}
+use Rattle.std.proofs.Common.{◌≡◌, ℕ, [], refl, sym, ◌∙◌, ap, subst}
 use Rattle.std.specs.Prelude.{Bool, true, false, ◌||◌, ◌==◌, IsTrue, if◌then◌else◌}
 use Rattle.std.proofs.lemmas.Cmp.{nat_eq_equiv}
 use Rattle.std.proofs.lemmas.Map.Made.{IsDistinct-from_count}
 use Rattle.std.proofs.lemmas.Bool.{eqb-true}
-use Rattle.epic_num.specs.declared.name.HostId.{HostId}
 use Rattle.epic_num.specs.declared.hop.Body.{Body}
-use Rattle.epic_num.specs.BigEndian.{u16_bytes, u32_bytes, u64_bytes}
 use Rattle.epic_num.specs.Bodies.{body_bytes, IsBody}
 use Rattle.epic_num.specs.Levels.{is_tagged}
-use Rattle.epic_num.specs.Messages.{host_bytes, authenticator_message, link_message, field1_message, field_domain, field23_message, dest_domain, domains, IsHost, IsFieldContent, SameFieldContent, FieldMessagesDiffer, Field1MessagesDiffer, AuthenticatorMessagesDiffer, LinkMessagesDiffer, DomainsDiffer}
-use Rattle.epic_num.proofs.Reading.{read_one, read_part, read_u16, read_u32, read_u64, read_host}
+use Rattle.epic_num.specs.Messages.{authenticator_message, link_message, field1_message, field_domain, field23_message, dest_domain, domains, FieldMessagesDiffer, Field1MessagesDiffer, AuthenticatorMessagesDiffer, LinkMessagesDiffer, DomainsDiffer}
+use Rattle.epic_num.proofs.Reading.{read_one, read_u16, read_u32, read_u64, read_host}
 
 -- ---- hops
 
@@ -64,6 +62,21 @@ first_of-field_domain : (first : ℕ) → IsTrue (is_tagged first) → first_of 
 unfolding first_of field_domain
 first_of-field_domain = at_tagged (λ f. first_of (field_domain f) ≡ f) refl refl refl refl
 
+-- the message's first byte tells the packet's
+pub field_domain-same : (first first' : ℕ) → IsTrue (is_tagged first) → IsTrue (is_tagged first') → field_domain first ≡ field_domain first' → first ≡ first'
+field_domain-same first first' t t' e = sym (first_of-field_domain first t) ∙ (ap first_of e ∙ first_of-field_domain first' t')
+
+-- the same of the message of a destination field
+first_of_dest : ℕ → ℕ
+first_of_dest domain = if domain == 0x22 then 0xE2 else if domain == 0x23 then 0xE3 else if domain == 0x42 then 0xF2 else 0xF3
+
+first_of_dest-dest_domain : (first : ℕ) → IsTrue (is_tagged first) → first_of_dest (dest_domain first) ≡ first
+unfolding first_of_dest dest_domain
+first_of_dest-dest_domain = at_tagged (λ f. first_of_dest (dest_domain f) ≡ f) refl refl refl refl
+
+pub dest_domain-same : (first first' : ℕ) → IsTrue (is_tagged first) → IsTrue (is_tagged first') → dest_domain first ≡ dest_domain first' → first ≡ first'
+dest_domain-same first first' t t' e = sym (first_of_dest-dest_domain first t) ∙ (ap first_of_dest e ∙ first_of_dest-dest_domain first' t')
+
 pub field_messages : FieldMessagesDiffer
 unfolding field23_message
 field_messages first first' ts ts' src src' hop hop' sigma sigma' f f' e =
@@ -72,7 +85,7 @@ field_messages first first' ts ts' src src' hop hop' sigma sigma' f f' e =
     let s = read_host src src' _ _ f.src_fits f'.src_fits t.1 in
     let h = read_one hop hop' sigma sigma' s.1 in
     record {
-      same_first = sym (first_of-field_domain first f.is_tagged_first) ∙ (ap first_of domain.0 ∙ first_of-field_domain first' f'.is_tagged_first);
+      same_first = field_domain-same first first' f.is_tagged_first f'.is_tagged_first domain.0;
       same_ts = t.0;
       same_src = s.0;
       same_hop = h.0;

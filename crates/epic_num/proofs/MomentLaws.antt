@@ -1,6 +1,5 @@
 -- What the tests of time say of numbers.
-use Rattle.std.proofs.Common.{◌≡◌, ℕ, ◌≤◌, ◌+◌, Bool, true, false, arith, refl}
-use Rattle.std.specs.Bool.{Decides}
+use Rattle.std.proofs.Common.{◌≡◌, ℕ, false, arith}
 use Rattle.std.proofs.lemmas.Bool.Decides.{nat_tests}
 use Rattle.epic_num.specs.declared.profile.Profile.{Profile}
 use Rattle.epic_num.specs.Moments.{is_early, is_stale, IsFresh}

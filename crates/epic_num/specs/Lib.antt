@@ -5,6 +5,8 @@ pub mod Holders
 pub mod Levels
 pub mod Messages
 pub mod Moments
+pub mod Names
 pub mod Paths
 pub mod Same
 pub mod Segments
+pub mod Spellings

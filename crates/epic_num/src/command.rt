@@ -2,7 +2,7 @@ use crate::{AsId, Bytes, Holder, HostId, Level};
 use arrayvec::ArrayVec;
 
 /// One step of one actor.
-#[derive(Debug, Drop)]
+#[derive(Debug, Drop, PartialEq, Eq)]
 pub enum Command {
     /// The present moment becomes `moment`, in microseconds, where that is later.
     At {

@@ -1,8 +1,16 @@
 //! Whether two values are the same, as tests that specifications name.
 ghost use Rattle.std.specs.Prelude.{◌≡◌};
-ghost use Rattle.epic_num.specs.Same.{same_body, same_field, same_holder, same_host, same_key, same_name};
+ghost use Rattle.epic_num.specs.Same.{same_as, same_body, same_field, same_holder, same_host, same_key, same_name};
 
-use crate::{Body, Field, Holder, HopName, HostId, KeyName};
+use crate::{AsId, Body, Field, Holder, HopName, HostId, KeyName};
+
+/// Whether two ASes are the same.
+#[tactic(auto, unfolding(crate::specs::Same::same_as))]
+pub fn same_as(a: AsId, b: AsId) -> bool
+    ensures { result ≡ same_as a b }
+{
+    a == b
+}
 
 /// Whether two hosts are the same.
 #[tactic(auto, unfolding(crate::specs::Same::same_as, crate::specs::Same::same_host))]

@@ -1,3 +1,5 @@
+ghost use Rattle.std.specs.Prelude.{◌≡◌};
+
 use crate::{AsId, Body};
 use arrayvec::ArrayVec;
 
@@ -29,6 +31,21 @@ pub struct SegHop {
 pub struct Segment {
     pub kind: SegKind,
     pub hops: ArrayVec<SegHop, 16>,
+}
+
+impl Segment {
+    /// The same segment once more. It takes no memory.
+    pub fn copied(&self) -> Segment
+        ensures { result ≡ self.now }
+    {
+        let Ok(hops) = ArrayVec::try_from(self.hops.as_slice()) else {
+            unreachable!()
+        };
+        Segment {
+            kind: self.kind,
+            hops,
+        }
+    }
 }
 
 /// A segment of a path, with the direction in which it is travelled.

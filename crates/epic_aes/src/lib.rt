@@ -1,0 +1,12 @@
+//! The block cipher AES-128 (FIPS 197).
+#![tactic(auto)]
+
+mod block;
+mod cipher;
+mod rounds;
+mod tables;
+#[cfg(test)]
+mod tests;
+
+pub use block::block_sum;
+pub use cipher::Aes;

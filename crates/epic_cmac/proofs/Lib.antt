@@ -1,0 +1,4 @@
+mod BlockLemmas
+mod HeldLemmas
+pub mod CmacFacts
+pub mod StandardFacts

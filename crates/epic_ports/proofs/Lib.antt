@@ -1,0 +1,6 @@
+pub mod Appended
+mod Counting
+mod HasFront
+mod MemFiles
+mod MemPieces
+mod SinkAnswers

@@ -1,0 +1,15 @@
+use Rattle.std.proofs.Common.{arith}
+use Rattle.std.proofs.lemmas.Map.Text.{text_keys}
+use Rattle.epic_ports.proofs.Counting.{same_counts}
+use Rattle.epic_ports.proofs.counts.FaultCounts.count_write.Goals as goal
+
+pub returns-clause-writes : goal.returns-clause-writes
+returns-clause-writes c =
+    record {
+      once = grind (arith, text_keys);
+      later = grind (arith, text_keys);
+      others = λ q other. grind (arith, text_keys);
+    }
+
+pub returns-clause-reads : goal.returns-clause-reads
+returns-clause-reads c = same_counts _ _ (λ q. grind (arith, text_keys))

@@ -1,0 +1,9 @@
+pub mod DiskStore
+pub mod FaultCounts
+pub mod Faults
+pub mod Files
+pub mod MemFiles
+pub mod MemSink
+pub mod MemStore
+pub mod StdSink
+pub mod Written
