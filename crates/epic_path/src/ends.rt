@@ -4,7 +4,6 @@ ghost use Rattle.epic_num.specs.Segments.{first_as, last_as};
 ghost use Rattle.epic_num.specs.Paths.{end_of};
 ghost use Rattle.epic_path.specs.Joins.{leg_from};
 
-use arrayvec::ArrayVec;
 use epic_num::{AsId, Leg, Segment};
 
 /// A segment's first AS in construction order.
@@ -35,19 +34,6 @@ pub fn leg_end(leg: &Leg) -> AsId
     }
 }
 
-// `Clone` would have to ask for memory, and a segment needs none.
-fn copy_of(segment: &Segment) -> Segment
-    ensures { result ≡ segment.now }
-{
-    let Ok(hops) = ArrayVec::try_from(segment.hops.as_slice()) else {
-        unreachable!()
-    };
-    Segment {
-        kind: segment.kind,
-        hops,
-    }
-}
-
 /// The leg over a segment for who stands at `at`, if one of the segment's ends is there.
 #[tactic(auto, unfolding(epic_num::specs::Same::same_as, crate::specs::Joins::leg_from))]
 pub fn leg_from(at: AsId, segment: &Segment) -> Option<Leg>
@@ -55,12 +41,12 @@ pub fn leg_from(at: AsId, segment: &Segment) -> Option<Leg>
 {
     if first_as(segment) == at {
         Some(Leg {
-            segment: copy_of(segment),
+            segment: segment.copied(),
             against: false,
         })
     } else if last_as(segment) == at {
         Some(Leg {
-            segment: copy_of(segment),
+            segment: segment.copied(),
             against: true,
         })
     } else {

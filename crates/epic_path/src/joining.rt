@@ -13,7 +13,7 @@ use epic_num::{AsId, Leg, Path, PathError, SegKind, Segment};
 const MOST_SEGMENTS: usize = 3;
 
 /// How many hops a path may have.
-const MOST_HOPS: usize = 32;
+pub const MOST_HOPS: usize = 32;
 
 #[tactic(auto, unfolding(crate::specs::Joins::hops_of))]
 fn hops_of(segments: &[Segment]) -> usize

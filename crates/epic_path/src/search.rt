@@ -4,14 +4,12 @@ ghost use Rattle.epic_num.specs.Segments.{is_well_formed};
 ghost use Rattle.epic_path.specs.Search.{Finds, arrived, climbed, core_links, crossed, extended, finished, last_links, links_at, no_path, onward, up_links};
 
 use crate::ends::{first_as, last_as};
+use crate::joining::MOST_HOPS;
 use crate::links::{Link, Links, link_to, up_link};
 use crate::paths_error::PathsError;
 use arrayvec::ArrayVec;
 use epic_num::{AsId, PathRef, SegKind, Segment};
 use std::alloc::{AllocError, Global};
-
-/// How many hops a path may have.
-const MOST_HOPS: u32 = 32;
 
 fn copy_of(path: &PathRef) -> PathRef
     ensures { result ≡ path.now }
@@ -43,7 +41,7 @@ fn extended(path: &PathRef, link: &Link) -> Option<PathRef>
     ensures path { result ≡ extended path.now link.now }
     ensures issues { IfSome result (λ p. length p.issues.items ≡ length path.now.issues.items + 1) }
 {
-    let hops = u32::from(path.hops) + u32::from(link.hops);
+    let hops = usize::from(path.hops) + usize::from(link.hops);
     if hops > MOST_HOPS {
         return None;
     }
