@@ -1,0 +1,7 @@
+pub mod Chaining
+pub mod Grown
+pub mod Issued
+pub mod Keeping
+pub mod Rolled
+pub mod Rows
+pub mod Walked

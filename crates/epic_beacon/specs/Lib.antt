@@ -1,0 +1,4 @@
+pub mod Chained
+pub mod Issuing
+pub mod Kinds
+pub mod Store
