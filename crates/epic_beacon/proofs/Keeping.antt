@@ -252,3 +252,7 @@ none_kinds t n b h = let w = beacon_at-within [] n b h in absurd (nothing n w.0 
   where
     nothing : (m : ℕ) → 0 < m → m ≤ 0 → ⊥
     nothing m some none = absurd (omega arith)
+
+-- the same issues are kept
+pub kept_with : (t : Network) (old new : List Beacon) → new ≡ old → IssuesKept t (issues_of old) → IssuesKept t (issues_of new)
+kept_with t old new same kept = subst (λ bs. IssuesKept t (issues_of bs)) (sym same) kept

@@ -1,4 +1,5 @@
 pub mod Chaining
+pub mod Formed
 pub mod Grown
 pub mod Issued
 pub mod Keeping

@@ -65,3 +65,16 @@ walked_off beacons a m n gone =
 pub walked_out : (beacons : List Beacon) (a : AsId) (n : ℕ) → stands_in a (last_names (issues_of beacons) 0 n) ≡ false
 unfolding stands_in last_names
 walked_out beacons a n = refl
+
+pub last_names-there : (beacons : List Beacon) (m n : ℕ) (b : Beacon) → beacon_at beacons n ≡ Some b
+    → last_names (issues_of beacons) (suc m) n ≡ last_names (issues_of beacons) m b.parent ++ b.name ∷ []
+unfolding last_names
+last_names-there beacons m n b there =
+    ap (λ (o : Option Issue). option_map_or (λ i. last_names (issues_of beacons) m i.parent ++ i.name ∷ []) o [])
+    (issue_at-issues_of beacons n ∙ ap (option_map issue_of) there)
+
+pub last_names-gone : (beacons : List Beacon) (m n : ℕ) → beacon_at beacons n ≡ None → last_names (issues_of beacons) (suc m) n ≡ []
+unfolding last_names
+last_names-gone beacons m n gone =
+    ap (λ (o : Option Issue). option_map_or (λ i. last_names (issues_of beacons) m i.parent ++ i.name ∷ []) o [])
+    (issue_at-issues_of beacons n ∙ ap (option_map issue_of) gone)

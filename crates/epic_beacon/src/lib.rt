@@ -7,9 +7,11 @@ mod hop;
 mod issuing;
 mod refusal;
 mod roll;
+mod segment;
 #[cfg(test)]
 mod tests;
 
 use beacon::Beacon;
 pub use beacons::Beacons;
 pub use epic_num::BeaconError;
+pub use segment::SegmentError;

@@ -1,5 +1,5 @@
 use super::*;
-use epic_num::{AsId, Body, HopName};
+use epic_num::{AsId, Body, HopName, SegKind};
 use epic_topo::{Topology, read_topology};
 use std::alloc::Global;
 use std::process::Abort;
@@ -98,5 +98,40 @@ fn a_new_key_makes_a_new_issue(rt: HostRuntime) -> Result<(), Fail> {
     };
     assert!(rt; store.issue(3) == Some((rolled, 1)));
     assert!(rt; store.extend(&topo, 1, 2, 63, NOW) == Err(BeaconError::Duplicate(3)));
+    Ok(())
+}
+
+#[test]
+fn an_ended_chain_is_a_segment(rt: HostRuntime) -> Result<(), Fail> {
+    let topo = topology(&rt, rt.alloc())?;
+    let mut store = Beacons::new(rt.alloc());
+    assert!(rt; topo.has(CORE));
+    assert!(rt; store.originate(&topo, CORE, 2, 63, NOW)? == 1);
+    assert!(rt; store.extend(&topo, 1, 2, 63, NOW)? == 2);
+    assert!(rt; store.extend(&topo, 2, 0, 63, NOW)? == 3);
+    assert!(rt; store.originate(&topo, CORE, 1, 63, NOW)? == 4);
+    assert!(rt; store.extend(&topo, 4, 0, 63, NOW)? == 5);
+    assert!(rt; store.segment(2) == Err(SegmentError::NotEnded));
+    assert!(rt; store.segment(6) == Err(SegmentError::Unknown));
+    let down = store.segment(3)?;
+    assert_eq!(rt; down.kind, SegKind::Child);
+    // Each hop's link tag and authenticator.
+    let rows = [
+        (0_u64, 0xc11c_948b_5703_2617_ec82_805c_462e_bb18_u128),
+        (
+            0x5fc8_567c_f27d_6859,
+            0x545a_3ebf_4ce8_9321_245a_9f2e_f90b_a2ac,
+        ),
+        (
+            0xf02f_dcef_5be8_6197,
+            0x3095_d2a1_9c79_f025_0e31_f22f_b0d3_b59d,
+        ),
+    ];
+    assert_eq!(rt; down.hops.len(), 3);
+    for (hop, (link, sigma)) in down.hops.iter().zip(rows.iter()) {
+        assert_eq!(rt; hop.body.link, link.to_be_bytes());
+        assert_eq!(rt; hop.sigma, sigma.to_be_bytes());
+    }
+    assert_eq!(rt; store.segment(5)?.kind, SegKind::Core);
     Ok(())
 }
