@@ -1,15 +1,15 @@
 -- The chains of a store when one more beacon is put behind the others.
-use Rattle.std.proofs.Common.{◌≡◌, ◌≢◌, ℕ, zero, suc, ◌+◌, ◌≤◌, ◌<◌, Bool, true, false, List, [], ◌∷◌, ◌++◌, length, refl, sym, ◌∙◌, ap, arith, add-one, subst, inl, inr, length-append}
-use Rattle.std.specs.Prelude.{◌⊎◌, Option, Some, None, option_map, option_and_then, slice_get, if◌then◌else◌}
+use Rattle.std.proofs.Common.{◌≡◌, ℕ, suc, ◌+◌, ◌≤◌, ◌<◌, Bool, true, false, List, [], ◌∷◌, ◌++◌, length, refl, sym, ◌∙◌, ap, arith, add-one, subst, inl, inr, length-append}
+use Rattle.std.specs.Prelude.{Option, Some, None, option_map, option_and_then, slice_get, if◌then◌else◌}
 use Rattle.std.specs.Option.{option_map_or}
 use Rattle.epic_num.specs.declared.hop.HopName.{HopName}
 use Rattle.epic_num.specs.declared.segment.SegKind.{SegKind}
-use Rattle.epic_num.specs.Chains.{Issue, issue_at, last_names, chain}
+use Rattle.epic_num.specs.Chains.{Issue, last_names, chain}
 use Rattle.epic_num.proofs.ChainLaws.{AreKnown, chain-append, last_names-append}
 use Rattle.epic_topo.specs.declared.link_kind.LinkKind.{LinkKind}
 use Rattle.epic_topo.specs.Network.{Network}
 use Rattle.epic_beacon.specs.declared.beacon.Beacon.{Beacon}
-use Rattle.epic_beacon.specs.Chained.{IsFirst, IsNext, IsChained, AreChained}
+use Rattle.epic_beacon.specs.Chained.{IsChained, AreChained}
 use Rattle.epic_beacon.specs.Issuing.{link_at, kind_by, stands_in}
 use Rattle.epic_beacon.specs.Kinds.{first_link, KindsKept}
 use Rattle.epic_beacon.specs.Store.{beacon_at, issue_of, issues_of}

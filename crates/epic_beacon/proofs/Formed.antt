@@ -1,24 +1,23 @@
 -- The hops of an ended chain make a well-formed segment.
-use Rattle.std.proofs.Common.{◌≡◌, ◌≢◌, ℕ, zero, suc, ◌+◌, ◌-◌, ◌≤◌, ◌<◌, Bool, true, false, ◌&&◌, ◌||◌, not, ◌==◌, List, [], ◌∷◌, ◌++◌, length, refl, sym, ◌∙◌, ap, arith, add-one, subst, length-append, inl, inr}
-use Rattle.std.specs.Prelude.{◌⊎◌, Option, Some, None, map, nat_le, slice_get}
+use Rattle.std.proofs.Common.{◌≡◌, ℕ, zero, suc, ◌+◌, ◌-◌, ◌≤◌, ◌<◌, Bool, true, false, ◌&&◌, ◌||◌, not, ◌==◌, List, [], ◌∷◌, ◌++◌, length, refl, sym, ◌∙◌, ap, arith, subst, length-append, inl, inr}
+use Rattle.std.specs.Prelude.{Option, Some, None, map, nat_le, slice_get}
 use Rattle.std.specs.List.{list_any, list_all}
 use Rattle.std.specs.Option.{option_map_or}
 use Rattle.std.proofs.lemmas.Bool.{eq-eqb, eqb-true}
 use Rattle.std.proofs.lemmas.Bool.Decides.{nat_tests}
-use Rattle.epic_num.specs.declared.hop.HopName.{HopName}
 use Rattle.epic_num.specs.declared.name.AsId.{AsId}
 use Rattle.epic_num.specs.declared.segment.SegHop.{SegHop}
 use Rattle.epic_num.specs.declared.segment.Segment.{Segment}
-use Rattle.epic_num.specs.Chains.{Issue, last_names, chain}
+use Rattle.epic_num.specs.Chains.{last_names, chain}
 use Rattle.epic_num.specs.Same.{same_as}
 use Rattle.epic_num.specs.Segments.{are_placed_from, are_different, first_hop, last_hop, have_one_ts_path, are_closed, is_well_formed}
 use Rattle.epic_beacon.specs.declared.beacon.Beacon.{Beacon}
-use Rattle.epic_beacon.specs.Chained.{IsFirst, IsNext, AreChained}
+use Rattle.epic_beacon.specs.Chained.{IsFirst, AreChained}
 use Rattle.epic_beacon.specs.Hops.{hop_of, name_of_hop, last_hops, IsSegment}
 use Rattle.epic_beacon.specs.Issuing.{stands_in}
-use Rattle.epic_beacon.specs.Store.{beacon_at, issue_of, issues_of}
+use Rattle.epic_beacon.specs.Store.{beacon_at, issues_of}
 use Rattle.epic_beacon.proofs.Issued.{chain_there}
-use Rattle.epic_beacon.proofs.Walked.{issue_at-issues_of, last_names-there, last_names-gone}
+use Rattle.epic_beacon.proofs.Walked.{last_names-there, last_names-gone}
 
 -- ---- tests
 

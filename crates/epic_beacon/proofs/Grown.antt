@@ -1,9 +1,8 @@
 -- What was issued stays as it is when one more beacon is put behind it.
-use Rattle.std.proofs.Common.{◌≡◌, ℕ, zero, suc, ◌+◌, ◌-◌, ◌≤◌, ◌<◌, List, [], ◌∷◌, ◌++◌, length, refl, sym, ◌∙◌, ap, arith, add-one, subst, inl, inr}
-use Rattle.std.specs.Prelude.{Option, Some, None, ◌⊎◌, slice_get, map}
-use Rattle.std.proofs.lemmas.Option.{slice_get_past, slice_get_within}
+use Rattle.std.proofs.Common.{◌≡◌, ℕ, zero, suc, ◌+◌, ◌-◌, ◌≤◌, ◌<◌, List, [], ◌∷◌, ◌++◌, length, refl, sym, ◌∙◌, ap, arith, add-one, inl, inr}
+use Rattle.std.specs.Prelude.{Some, None, ◌⊎◌, slice_get}
+use Rattle.std.proofs.lemmas.Option.{slice_get_within}
 use Rattle.std.proofs.Math.Dec.{eqb-suc-zero}
-use Rattle.epic_num.specs.Chains.{Issue}
 use Rattle.epic_beacon.specs.declared.beacon.Beacon.{Beacon}
 use Rattle.epic_beacon.specs.Store.{beacon_at, issue_of, issues_of}
 

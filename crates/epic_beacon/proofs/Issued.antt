@@ -1,25 +1,19 @@
 -- What an issued beacon is to the others.
-use Rattle.std.proofs.Common.{◌≡◌, ◌≢◌, ℕ, zero, suc, ◌+◌, ◌-◌, ◌≤◌, ◌<◌, Bool, true, false, ◌&&◌, not, ◌==◌, List, [], ◌∷◌, ◌++◌, length, replicate, refl, sym, ◌∙◌, ap, arith, add-one, subst, inl, inr, eqb-true, eq-eqb}
-use Rattle.std.specs.Prelude.{◌⊎◌, Option, Some, None, option_map, option_and_then, is_none, unwrap_or, IsSome, slice_get, Result, Ok, Err, IsTrue}
+use Rattle.std.proofs.Common.{◌≡◌, ◌≢◌, ℕ, ◌≤◌, true, false, ◌&&◌, not, ◌==◌, List, [], ◌∷◌, refl, sym, ◌∙◌, ap, arith, subst, inl, inr}
+use Rattle.std.specs.Prelude.{Option, Some, None, option_map, is_none, IsSome, Ok, Err}
 use Rattle.std.specs.Option.{option_map_or}
-use Rattle.std.proofs.lemmas.Bool.Decides.{nat_tests}
-use Rattle.epic_num.specs.declared.beacon_error.BeaconError.{BeaconError}
 use Rattle.epic_num.specs.declared.beacon_error.BeaconError.TheVariants.{NotCore, Unknown, Ended, TooLong, Loop, UnknownInterface, WrongKind, Expired}
 use Rattle.epic_num.specs.declared.hop.HopName.{HopName}
 use Rattle.epic_num.specs.declared.name.AsId.{AsId}
 use Rattle.epic_num.specs.declared.segment.SegKind.TheVariants.{Core}
 use Rattle.epic_num.specs.Chains.{Issue, issue_at, last_names, chain}
 use Rattle.epic_num.specs.Moments.{is_expired}
-use Rattle.epic_num.proofs.ChainLaws.{AreKnown, chain-append, last_names-append, issue_at-append, issue_at-next, issue_at-past}
-use Rattle.epic_topo.specs.declared.link_kind.LinkKind.{LinkKind}
 use Rattle.epic_topo.specs.Network.{Network, has, is_core, neighbour}
-use Rattle.epic_keys.specs.Issues.{IsRoot, IsChild, IsKept, IssuesKept}
+use Rattle.epic_keys.specs.Issues.{IssuesKept}
 use Rattle.epic_beacon.specs.declared.beacon.Beacon.{Beacon}
-use Rattle.epic_beacon.specs.Chained.{IsFirst, IsNext, IsChained, AreChained}
-use Rattle.epic_beacon.specs.Issuing.{Row, first_row, unless, behind, link_at, kind_by, goes_on, first_name, next_name, beacon_of, stands_in, place_rows, originate_rows, onward_rows, extend_rows, originated, extended_from, extended}
-use Rattle.epic_beacon.specs.Kinds.{first_link, KindsKept}
+use Rattle.epic_beacon.specs.Chained.{AreChained}
+use Rattle.epic_beacon.specs.Issuing.{Row, first_row, link_at, kind_by, goes_on, first_name, next_name, beacon_of, stands_in, place_rows, originate_rows, onward_rows, extend_rows, originated, extended_from, extended}
 use Rattle.epic_beacon.specs.Store.{Store, beacon_at, issue_of, issues_of}
-use Rattle.epic_beacon.proofs.Grown.{beacon_at-within, beacon_at-more, beacon_at-stays, issues_of-append, length-issues_of}
 use Rattle.epic_beacon.proofs.Rows.{row_passed, unless_ok}
 use Rattle.epic_beacon.proofs.Walked.{issue_at-issues_of}
 

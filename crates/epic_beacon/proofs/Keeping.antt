@@ -14,7 +14,7 @@ use Rattle.epic_num.proofs.ChainLaws.{issue_at-zero, issue_at-append, issue_at-n
 use Rattle.epic_topo.specs.declared.link_kind.LinkKind.{LinkKind}
 use Rattle.epic_topo.specs.declared.link_kind.LinkKind.TheVariants.{Core as CoreLink}
 use Rattle.epic_topo.specs.Network.{Network, has, neighbour}
-use Rattle.epic_keys.specs.Issues.{IsRoot, IsChild, IsKept, IssuesKept}
+use Rattle.epic_keys.specs.Issues.{IsKept, IssuesKept}
 use Rattle.epic_beacon.specs.declared.beacon.Beacon.{Beacon}
 use Rattle.epic_beacon.specs.Chained.{IsFirst, IsNext, IsChained, AreChained}
 use Rattle.epic_beacon.specs.Issuing.{Issues, behind, link_at, kind_by, first_name, next_name, beacon_of, stands_in, originated, extended}
@@ -22,7 +22,7 @@ use Rattle.epic_beacon.specs.Kinds.{KindsKept}
 use Rattle.epic_beacon.specs.Store.{Store, beacon_at, issue_of, issues_of, with_beacon}
 use Rattle.epic_beacon.proofs.Chaining.{kinds_first, kinds_next}
 use Rattle.epic_beacon.proofs.Grown.{beacon_at-within, issues_of-append, length-issues_of}
-use Rattle.epic_beacon.proofs.Issued.{Extended, Originated, extended_ok, originated_ok, issue_there, position_few, parent_linked}
+use Rattle.epic_beacon.proofs.Issued.{Extended, extended_ok, originated_ok, issue_there, position_few, parent_linked}
 
 -- ---- links
 

@@ -1,6 +1,6 @@
 -- A table whose rows don't apply refuses nothing.
-use Rattle.std.proofs.Common.{◌≡◌, Bool, true, false, List, [], ◌∷◌, refl}
-use Rattle.std.specs.Prelude.{Option, None, Some, Result, Ok, Err}
+use Rattle.std.proofs.Common.{◌≡◌, Bool, true, false, List, ◌∷◌, refl}
+use Rattle.std.specs.Prelude.{Option, None, Some, Ok}
 use Rattle.epic_num.specs.declared.beacon_error.BeaconError.{BeaconError}
 use Rattle.epic_beacon.specs.declared.beacon.Beacon.{Beacon}
 use Rattle.epic_beacon.specs.Issuing.{Row, first_row, unless}

@@ -1,6 +1,5 @@
 -- What links a chain is made of, by its first link.
 use Rattle.std.specs.Prelude.{◌≡◌, ℕ, List, Option, Some, option_map, option_and_then, slice_get}
-use Rattle.epic_num.specs.declared.hop.HopName.{HopName}
 use Rattle.epic_num.specs.Chains.{Issue, chain}
 use Rattle.epic_topo.specs.declared.link_kind.LinkKind.{LinkKind}
 use Rattle.epic_topo.specs.Network.{Network}

@@ -1,4 +1,4 @@
-use Rattle.std.proofs.Common.{◌≡◌, ℕ, suc, ◌+◌, ◌-◌, sym, ◌∙◌, ap, arith}
+use Rattle.std.proofs.Common.{◌≡◌, suc, ◌+◌, ◌-◌, sym, ◌∙◌, ap, arith}
 use Rattle.epic_num.specs.Chains.{last_names}
 use Rattle.epic_beacon.specs.Issuing.{stands_in}
 use Rattle.epic_beacon.specs.Store.{issues_of}

@@ -1,7 +1,7 @@
 use Rattle.std.proofs.Common.{sym}
 use Rattle.epic_keys.specs.Issues.{IssuesKept}
 use Rattle.epic_beacon.specs.Kinds.{KindsKept}
-use Rattle.epic_beacon.specs.Store.{Store, issues_of}
+use Rattle.epic_beacon.specs.Store.{issues_of}
 use Rattle.epic_beacon.proofs.Keeping.{originated_chained, originated_kept, originated_kinds, issued_either}
 use Rattle.epic_beacon.proofs.beacons.Beacons.originate.Goals as goal
 
