@@ -63,7 +63,7 @@ fn heads_of(bytes: &[u8], count: u8) -> Heads
 #[tactic(auto, unfolding(crate::specs::Contents::dest_len))]
 pub(crate) fn header_len_of(first: u8, segments: u8, hops: u16) -> u16
     requires few_segments { segments ≤ 3 }
-    requires few_hops { hops ≤ 32 }
+    requires few_hops { hops ≤ 48 }
     ensures { result ≡ segment_offset segments + (13 + levels.width_of first) * hops + dest_len first }
 {
     let hop_len = 13 + width_of(first) as u16;

@@ -9,6 +9,8 @@ mod laws;
 mod packet;
 mod read;
 mod shape;
+#[cfg(test)]
+mod tests;
 mod valid;
 
 pub use checking::check;

@@ -1,11 +1,10 @@
 -- What an edit of a packet's bytes leaves as it was.
-use Rattle.std.proofs.Common.{◌≡◌, ℕ, ◌+◌, ◌-◌, ◌*◌, ◌<◌, ◌≤◌, Bool, false, List, length, drop, map, replicate, ap, sym, ◌∙◌, inl, inr, ⊎_elim, arith, zero-add, if◌then◌else◌}
+use Rattle.std.proofs.Common.{◌≡◌, ℕ, ◌+◌, ◌-◌, ◌*◌, ◌<◌, ◌≤◌, Bool, false, List, length, drop, map, replicate, ap, sym, ◌∙◌, inl, inr, ⊎_elim, arith, if◌then◌else◌}
 use Rattle.std.specs.Prelude.{◌⊎◌, ◌==◌, nat_lt, not, ◌||◌}
 use Rattle.std.specs.List.{range_with_len}
 use Rattle.std.specs.Int.{Width, byte_len, from_be_bytes, w16, w32, w64}
 use Rattle.std.proofs.lemmas.List.{ext_get_or, length-drop, get_or-drop}
 use Rattle.std.proofs.lemmas.List.Folds.{list_any_none}
-use Rattle.std.proofs.lemmas.List.FromFn.{fill_by_all, length-map-range_with_len, get_or-map-range_with_len}
 use Rattle.epic_num.specs.Levels.{width_of, is_tagged, is_first_byte}
 use Rattle.epic_layout.specs.Pieces.{byte, piece, number}
 use Rattle.epic_layout.specs.Route.{hops_of, no_segment, no_hop}

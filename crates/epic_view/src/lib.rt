@@ -7,6 +7,8 @@ mod packet_ref;
 mod packet_view;
 mod places;
 mod reading;
+#[cfg(test)]
+mod tests;
 
 pub use packet_ref::PacketRef;
 pub use packet_view::PacketView;

@@ -63,7 +63,9 @@ impl<'a> PacketRef<'a> {
     }
 
     pub fn shape(&self) -> Shape
-        ensures { result ≡ contents.shape self.now }
+        ensures shape { result ≡ contents.shape self.now }
+        ensures segments { result.segments ≡ length self.now.route.segments }
+        ensures hops { result.hops ≡ hop_count self.now }
     {
         self.frame.shape
     }
