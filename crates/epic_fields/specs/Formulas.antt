@@ -2,7 +2,6 @@
 use Rattle.std.specs.Prelude.{ℕ, List, take}
 use Rattle.epic_cmac.specs.Cmac.{cmac}
 use Rattle.epic_num.specs.declared.hop.Body.{Body}
-use Rattle.epic_num.specs.declared.hop.Field.{Field}
 use Rattle.epic_num.specs.declared.name.HostId.{HostId}
 use Rattle.epic_num.specs.Messages.{authenticator_message, link_message, field1_message, field23_message}
 use Rattle.epic_layout.specs.Contents.{Contents}
@@ -31,7 +30,3 @@ field23 key first ts src hop sigma = cmac key (field23_message first ts src hop 
 -- a destination field, under the key that the destination shares with the source
 unfoldable pub dest_tag : List ℕ → Contents → List (List ℕ) → List ℕ
 dest_tag key packet updates = cmac key (dest_message packet updates)
-
--- the bytes of a field or an update that count
-abbrev pub field_bytes : Field → List ℕ
-field_bytes f = take f.width f.bytes

@@ -4,9 +4,8 @@ ghost use Rattle.std.specs.Prelude.{◌≡◌, ◌≤◌, ◌↔◌, ◌++◌, l
 ghost use Rattle.std.specs.List.{flat_map, concat};
 ghost use Rattle.epic_num.specs.Levels.{is_tagged, width_of};
 ghost use Rattle.epic_num.specs.Messages.{dest_domain, host_bytes};
-ghost use Rattle.epic_layout.specs.Contents.{hop_count};
+ghost use Rattle.epic_layout.specs.Contents.{hop_count, field_bytes};
 ghost use Rattle.epic_layout.specs.Spelling.{segment_bytes, hop_bytes, path_bytes, update_count};
-ghost use Rattle.epic_fields.specs.Formulas.{field_bytes};
 ghost use Rattle.epic_fields.specs.Formulas as formulas;
 
 use epic_cmac::CmacState;

@@ -6,10 +6,10 @@ use Rattle.epic_cmac.specs.Pieces.{Fed}
 use Rattle.epic_num.specs.BigEndian.{u16_bytes, u64_bytes}
 use Rattle.epic_num.specs.Levels.{width_of}
 use Rattle.epic_num.specs.Messages.{dest_domain, host_bytes}
-use Rattle.epic_layout.specs.Contents.{shape}
+use Rattle.epic_layout.specs.Contents.{shape, field_bytes}
 use Rattle.epic_layout.specs.Spelling.{dest_message, path_bytes}
 use Rattle.epic_layout.proofs.Offsets.{width_most}
-use Rattle.epic_fields.specs.Formulas.{dest_tag, field_bytes}
+use Rattle.epic_fields.specs.Formulas.{dest_tag}
 use Rattle.epic_fields.proofs.FedLemmas.{All-bounded, fed, fed_twice}
 use Rattle.epic_fields.proofs.destination.dest_tag.Goals as goal
 

@@ -1,5 +1,5 @@
 use Rattle.std.proofs.Common.{◌≤◌, length, ap, ◌∙◌, arith}
-use Rattle.epic_fields.specs.Formulas.{field_bytes}
+use Rattle.epic_layout.specs.Contents.{field_bytes}
 use Rattle.epic_fields.proofs.FedLemmas.{concat-map, fed, fed_all}
 use Rattle.epic_fields.proofs.destination.feed_updates.Goals as goal
 

@@ -1,6 +1,6 @@
 use Rattle.std.proofs.Common.{◌≡◌, take}
 use Rattle.std.specs.List.{flat_map}
-use Rattle.epic_fields.specs.Formulas.{field_bytes}
+use Rattle.epic_layout.specs.Contents.{field_bytes}
 use Rattle.epic_fields.proofs.FedLemmas.{fed}
 use Rattle.epic_fields.proofs.destination.feed_updates.Given as goal
 
