@@ -34,7 +34,7 @@ returns c =
     let size = to_be_bytes w16 (length p.payload) in
     let t7 : s8 ≡ fed s6 (size ++ p.payload) =
     fed_twice s6 s7 s8 size p.payload
-    (c.update-3.ensures ∙ ap (fed s6) (c.to_be_bytes-2.ensures ∙ ap (λ s. to_be_bytes w16 s.payload) c.shape.ensures))
+    (c.update-3.ensures ∙ ap (fed s6) (c.to_be_bytes-2.ensures ∙ ap (λ s. to_be_bytes w16 s.payload) c.shape.ensures.shape))
     (c.update-4.ensures ∙ ap (fed s7) c.payload.ensures) in
     let t6 = fed_twice s5 s6 s8 updates (size ++ p.payload) c.feed_updates.ensures t7 in
     let t5 = fed_twice s4 s5 s8 (path_bytes p.route) (updates ++ (size ++ p.payload)) c.feed_path.ensures t6 in

@@ -12,5 +12,5 @@ returns c =
     let heads = flat_map segment_bytes route.segments in
     let hops = flat_map hop_bytes route.hops in
     fed_twice c.args.state.now c.update.new.self c.feed_hops.new.state (length route.segments ∷ []) (heads ++ hops)
-    (c.update.ensures ∙ ap (λ s. fed c.args.state.now (s.segments ∷ [])) c.shape.ensures)
+    (c.update.ensures ∙ ap (λ s. fed c.args.state.now (s.segments ∷ [])) c.shape.ensures.shape)
     (fed_twice c.update.new.self c.feed_segments.new.state c.feed_hops.new.state heads hops c.feed_segments.ensures c.feed_hops.ensures)

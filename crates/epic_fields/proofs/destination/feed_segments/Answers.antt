@@ -9,7 +9,7 @@ pub loop-i-preserved : goal.loop-i-preserved
 unfolding shape
 loop-i-preserved c =
     let segments = c.args.packet.now.route.segments in
-    let count : c.shape-count.result.segments ≡ length segments = ap (λ s. s.segments) c.shape-count.ensures in
+    let count : c.shape-count.result.segments ≡ length segments = c.shape-count.ensures.segments in
     let below : c.loop-i.i < length segments = grind (arith, count, c.loop-i-test.true) in
     fed_more segment_bytes segments c.loop-i.i no_segment c.args.state.now c.loop-i.state c.update.new.self below c.loop-i.invariant
     (c.update.ensures ∙ ap (fed c.loop-i.state) c.segment_head.ensures)
@@ -18,6 +18,6 @@ pub returns : goal.returns
 unfolding shape
 returns c =
     let segments = c.args.packet.now.route.segments in
-    let count : c.shape-count.result.segments ≡ length segments = ap (λ s. s.segments) c.shape-count.ensures in
+    let count : c.shape-count.result.segments ≡ length segments = c.shape-count.ensures.segments in
     let past : length segments ≤ c.loop-i.i = grind (arith, count, c.loop-i-test.false) in
     fed_all segment_bytes segments c.loop-i.i c.args.state.now c.loop-i.state past c.loop-i.invariant
