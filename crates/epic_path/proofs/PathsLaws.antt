@@ -11,7 +11,7 @@ use Rattle.epic_path.specs.declared.links.Link.{Link}
 use Rattle.epic_path.specs.declared.paths_error.PathsError.{PathsError}
 use Rattle.epic_path.specs.declared.paths_error.PathsError.TheVariants.{TooMany, OutOfMemory}
 use Rattle.epic_path.specs.Routes.{all_lawful, leads, lists_up_to, named, path_cmp, in_order}
-use Rattle.epic_path.specs.Search.{Finds, up_links, core_links, last_links, climbed}
+use Rattle.epic_path.specs.Search.{Finds, up_links, core_links, last_links, paths_from}
 use Rattle.epic_path.proofs.Totals.{search_sum}
 use Rattle.epic_path.proofs.OrderLaws.{sorted_is, found_as_many}
 
@@ -26,11 +26,11 @@ none_to_itself segments from to same = sym (ap (λ rs. in_order (map named rs)) 
 module _ (segments : List Segment) (from to : AsId) (cores downs : AsId → List Link) (target : AsId) (apart : same_as from to ≡ false)
     (is-to : target ≡ to) (is-cores : (at : AsId) → cores at ≡ core_links segments at) (is-downs : (at : AsId) → downs at ≡ last_links to segments at) where
   abbrev found : List PathRef
-  found = climbed (up_links segments from) cores downs from target
+  found = paths_from (up_links segments from) cores downs from target
 
   found_sum : (f : PathRef → ℕ) → sum_by f found ≡ sum_by f (map named (filter (leads from to) (lists_up_to 3 segments)))
   found_sum f =
-      (λ i. sum_by f (climbed (up_links segments from) (λ at. is-cores at i) (λ at. is-downs at i) from (is-to i)))
+      (λ i. sum_by f (paths_from (up_links segments from) (λ at. is-cores at i) (λ at. is-downs at i) from (is-to i)))
       ∙ search_sum segments from to apart f
 
   pub sorted_all : (old before sorted : List PathRef) → old ≡ [] → before ≡ old ++ found → IsPermutation before sorted → IsSortedBy (λ p q. is_lt (path_cmp p q)) sorted → sorted ≡ all_lawful segments from to

@@ -13,7 +13,7 @@ use Rattle.epic_num.specs.Paths.{LegKind, UpLeg, CoreLeg, DownLeg, kind_of, end_
 use Rattle.epic_path.specs.declared.links.Link.{Link}
 use Rattle.epic_path.specs.Joins.{leg_from}
 use Rattle.epic_path.specs.Routes.{leads, lists_up_to, named}
-use Rattle.epic_path.specs.Search.{is_up, is_core, is_down, link_to, link_from, up_links, core_links, last_links, no_path, extended, onward, arrived, finished, crossed, climbed}
+use Rattle.epic_path.specs.Search.{is_up, is_core, is_down, link_to, link_from, up_links, core_links, last_links, no_path, extended, onward, paths_ended, paths_down, paths_over_core, paths_from}
 use Rattle.epic_path.proofs.SumLaws.{sum_by_one, sum_by_agree, sum_by_nothing, sum_by_plus, sum_by-filter, sum_by-map, sum_by-flat_map, sum_by-filter_map}
 use Rattle.epic_path.proofs.WalkLaws.{leg_from_is}
 use Rattle.epic_path.proofs.Worth.{rank, kind_over, grown, ending, worth, route_worth}
@@ -184,9 +184,9 @@ module _ (f : PathRef → ℕ) (to : AsId) (segments : List Segment) where
 
   -- ---- what the search finds
 
-  arrived_sum : (p : PathRef) (at : AsId) → nat_le p.hops 32 ≡ true → sum_by f (arrived to p at) ≡ ending f to p at
-  unfolding arrived ending
-  arrived_sum p at short =
+  paths_ended_sum : (p : PathRef) (at : AsId) → nat_le p.hops 32 ≡ true → sum_by f (paths_ended to p at) ≡ ending f to p at
+  unfolding paths_ended ending
+  paths_ended_sum p at short =
       let T : Bool → Type 0 = λ b. sum_by f (cond b (p ∷ []) []) ≡ cond (true && b) (f p) 0 in
       rw short ((elim (same_as at to) as T [ true ↦ sum_by_one f p | false ↦ refl ]))
 
@@ -202,44 +202,44 @@ module _ (f : PathRef → ℕ) (to : AsId) (segments : List Segment) where
         | false ↦ elim (same_as l.end to) as (T false) [ true ↦ refl | false ↦ refl ]
       ])
 
-  finished_sum : (p : PathRef) (at : AsId) → nat_le p.hops 32 ≡ true → sum_by f (finished (last_links to segments) to p at) ≡ ending f to p at + downs p at
-  unfolding finished last_links
-  finished_sum p at short =
+  paths_down_sum : (p : PathRef) (at : AsId) → nat_le p.hops 32 ≡ true → sum_by f (paths_down (last_links to segments) to p at) ≡ ending f to p at + downs p at
+  unfolding paths_down last_links
+  paths_down_sum p at short =
       let links = filter_map (link_from is_down at) segments in
       let over : sum_by f (flat_map (onward (λ q end. q ∷ []) p) (filter (λ l. same_as l.end to) links)) ≡ downs p at =
       sum_by-flat_map f (onward (λ q end. q ∷ []) p) (filter (λ l. same_as l.end to) links)
       ∙ sum_by-filter (λ l. sum_by f (onward (λ q end. q ∷ []) p l)) (λ l. same_as l.end to) links
       ∙ sum_by-filter_map (λ l. cond (same_as l.end to) (sum_by f (onward (λ q end. q ∷ []) p l)) 0) (link_from is_down at) segments
       ∙ sum_by_agree _ _ (λ s. last_sum p (link_from is_down at s)) segments in
-      omega (arith, sum_by-append f (arrived to p at) (flat_map (onward (λ q end. q ∷ []) p) (filter (λ l. same_as l.end to) links)), arrived_sum p at short, over)
+      omega (arith, sum_by-append f (paths_ended to p at) (flat_map (onward (λ q end. q ∷ []) p) (filter (λ l. same_as l.end to) links)), paths_ended_sum p at short, over)
 
-  finished_total : (n : ℕ) (p : PathRef) (at : AsId) → nat_le p.hops 32 ≡ true → sum_by f (finished (last_links to segments) to p at) ≡ total (suc n) 2 p at
-  finished_total n p at short = finished_sum p at short ∙ sym (total_core n p at)
+  paths_down_total : (n : ℕ) (p : PathRef) (at : AsId) → nat_le p.hops 32 ≡ true → sum_by f (paths_down (last_links to segments) to p at) ≡ total (suc n) 2 p at
+  paths_down_total n p at short = paths_down_sum p at short ∙ sym (total_core n p at)
 
-  crossed_sum : (n : ℕ) (p : PathRef) (at : AsId) → nat_le p.hops 32 ≡ true → sum_by f (crossed (core_links segments) (last_links to segments) to p at) ≡ ending f to p at + (cores (suc n) p at + downs p at)
-  unfolding crossed core_links
-  crossed_sum n p at short =
-      let end = finished (last_links to segments) to in
+  paths_over_core_sum : (n : ℕ) (p : PathRef) (at : AsId) → nat_le p.hops 32 ≡ true → sum_by f (paths_over_core (core_links segments) (last_links to segments) to p at) ≡ ending f to p at + (cores (suc n) p at + downs p at)
+  unfolding paths_over_core core_links
+  paths_over_core_sum n p at short =
+      let down = paths_down (last_links to segments) to in
       let links = filter_map (link_from is_core at) segments in
-      let over : sum_by f (flat_map (onward end p) links) ≡ cores (suc n) p at =
-      sum_by-flat_map f (onward end p) links
-      ∙ sum_by_agree _ _ (λ l. onward_agree end (suc n) 2 (finished_total n) p l) links
+      let over : sum_by f (flat_map (onward down p) links) ≡ cores (suc n) p at =
+      sum_by-flat_map f (onward down p) links
+      ∙ sum_by_agree _ _ (λ l. onward_agree down (suc n) 2 (paths_down_total n) p l) links
       ∙ sum_by-filter_map (by_link (suc n) 2 p) (link_from is_core at) segments in
-      omega (arith, sum_by-append f (end p at) (flat_map (onward end p) links), finished_sum p at short, over)
+      omega (arith, sum_by-append f (down p at) (flat_map (onward down p) links), paths_down_sum p at short, over)
 
-  crossed_total : (n : ℕ) (p : PathRef) (at : AsId) → nat_le p.hops 32 ≡ true → sum_by f (crossed (core_links segments) (last_links to segments) to p at) ≡ total (suc (suc n)) 1 p at
-  crossed_total n p at short = crossed_sum n p at short ∙ sym (total_up (suc n) p at)
+  paths_over_core_total : (n : ℕ) (p : PathRef) (at : AsId) → nat_le p.hops 32 ≡ true → sum_by f (paths_over_core (core_links segments) (last_links to segments) to p at) ≡ total (suc (suc n)) 1 p at
+  paths_over_core_total n p at short = paths_over_core_sum n p at short ∙ sym (total_up (suc n) p at)
 
-  climbed_total : (from : AsId) → sum_by f (climbed (up_links segments from) (core_links segments) (last_links to segments) from to) ≡ total 3 0 no_path from
-  unfolding climbed up_links no_path
-  climbed_total from =
-      let cross = crossed (core_links segments) (last_links to segments) to in
+  paths_from_total : (from : AsId) → sum_by f (paths_from (up_links segments from) (core_links segments) (last_links to segments) from to) ≡ total 3 0 no_path from
+  unfolding paths_from up_links no_path
+  paths_from_total from =
+      let further = paths_over_core (core_links segments) (last_links to segments) to in
       let links = filter_map (link_from is_up from) segments in
-      let over : sum_by f (flat_map (onward cross no_path) links) ≡ ups 2 no_path from =
-      sum_by-flat_map f (onward cross no_path) links
-      ∙ sum_by_agree _ _ (λ l. onward_agree cross 2 1 (crossed_total 0) no_path l) links
+      let over : sum_by f (flat_map (onward further no_path) links) ≡ ups 2 no_path from =
+      sum_by-flat_map f (onward further no_path) links
+      ∙ sum_by_agree _ _ (λ l. onward_agree further 2 1 (paths_over_core_total 0) no_path l) links
       ∙ sum_by-filter_map (by_link 2 1 no_path) (link_from is_up from) segments in
-      omega (arith, sum_by-append f (cross no_path from) (flat_map (onward cross no_path) links), crossed_sum 1 no_path from refl, over, total_first 2 no_path from)
+      omega (arith, sum_by-append f (further no_path from) (flat_map (onward further no_path) links), paths_over_core_sum 1 no_path from refl, over, total_first 2 no_path from)
 
 -- sums over short lists agree where short lists do
 agree_short : (n : ℕ) (segments : List Segment) (f g : List Segment → ℕ) → ((r : List Segment) → length r ≤ n → f r ≡ g r) → sum_by f (lists_up_to n segments) ≡ sum_by g (lists_up_to n segments)
@@ -254,9 +254,9 @@ agree_short (suc n) segments f g e =
     omega (arith, sum_by-cons f [] rest, sum_by-cons g [] rest, e [] (omega arith), same)
 
 -- the search finds the names of the routes that lead, each as often as there are such routes
-pub search_sum : (segments : List Segment) (from to : AsId) → same_as from to ≡ false → (f : PathRef → ℕ) → sum_by f (climbed (up_links segments from) (core_links segments) (last_links to segments) from to) ≡ sum_by f (map named (filter (leads from to) (lists_up_to 3 segments)))
+pub search_sum : (segments : List Segment) (from to : AsId) → same_as from to ≡ false → (f : PathRef → ℕ) → sum_by f (paths_from (up_links segments from) (core_links segments) (last_links to segments) from to) ≡ sum_by f (map named (filter (leads from to) (lists_up_to 3 segments)))
 search_sum segments from to apart f =
-    climbed_total f to segments from
+    paths_from_total f to segments from
     ∙ agree_short 3 segments _ _ (route_worth f from to apart)
     ∙ sym (sum_by-filter (λ r. f (named r)) (leads from to) (lists_up_to 3 segments))
     ∙ sym (sum_by-map f named (filter (leads from to) (lists_up_to 3 segments)))

@@ -17,18 +17,15 @@ use Rattle.epic_path.specs.Routes.{last_issue}
 
 unfoldable pub is_up : LegKind → Bool
 is_up UpLeg = true
-is_up CoreLeg = false
-is_up DownLeg = false
+is_up _ = false
 
 unfoldable pub is_core : LegKind → Bool
-is_core UpLeg = false
 is_core CoreLeg = true
-is_core DownLeg = false
+is_core _ = false
 
 unfoldable pub is_down : LegKind → Bool
-is_down UpLeg = false
-is_down CoreLeg = false
 is_down DownLeg = true
+is_down _ = false
 
 -- what a search keeps of a leg over a segment
 unfoldable pub link_to : AsId → Segment → Link
@@ -67,21 +64,21 @@ extended path link =
 unfoldable pub onward : (PathRef → AsId → List PathRef) → PathRef → Link → List PathRef
 onward rest path link = option_map_or (λ p. rest p link.end) (extended path link) []
 
--- a path that has come to an AS, if that is where paths end
-unfoldable pub arrived : AsId → PathRef → AsId → List PathRef
-arrived to path at = if same_as at to then path ∷ [] else []
+-- a path that has come to an AS, if paths end there
+unfoldable pub paths_ended : AsId → PathRef → AsId → List PathRef
+paths_ended to path at = if same_as at to then path ∷ [] else []
 
--- a path that has come to an AS ends there, or over a link down from there
-unfoldable pub finished : (AsId → List Link) → AsId → PathRef → AsId → List PathRef
-finished downs to path at = arrived to path at ++ flat_map (onward (λ p end. p ∷ []) path) (downs at)
+-- the paths that go on from one that has come to an AS, and end there or over a link down from there
+unfoldable pub paths_down : (AsId → List Link) → AsId → PathRef → AsId → List PathRef
+paths_down downs to path at = paths_ended to path at ++ flat_map (onward (λ p end. p ∷ []) path) (downs at)
 
--- .. or goes over a core link before that
-unfoldable pub crossed : (AsId → List Link) → (AsId → List Link) → AsId → PathRef → AsId → List PathRef
-crossed cores downs to path at = finished downs to path at ++ flat_map (onward (finished downs to) path) (cores at)
+-- the same, where a core link may come before that
+unfoldable pub paths_over_core : (AsId → List Link) → (AsId → List Link) → AsId → PathRef → AsId → List PathRef
+paths_over_core cores downs to path at = paths_down downs to path at ++ flat_map (onward (paths_down downs to) path) (cores at)
 
--- .. and before that, at its start, over a link up
-unfoldable pub climbed : List Link → (AsId → List Link) → (AsId → List Link) → AsId → AsId → List PathRef
-climbed ups cores downs from to = crossed cores downs to no_path from ++ flat_map (onward (crossed cores downs to) no_path) ups
+-- the paths from an AS: of those links up that lead away from it, one may come before that
+unfoldable pub paths_from : List Link → (AsId → List Link) → (AsId → List Link) → AsId → AsId → List PathRef
+paths_from ups cores downs from to = paths_over_core cores downs to no_path from ++ flat_map (onward (paths_over_core cores downs to) no_path) ups
 
 -- a part of the search for at most so many paths puts its own behind those found before, or finds that there are more
 abbrev pub Finds : ℕ → List PathRef → List PathRef → List PathRef → Result (Unit {0}) PathsError → Type 0

@@ -57,7 +57,8 @@ fn walk(from: AsId, segments: &[Segment]) -> Result<ArrayVec<Leg, 3>, PathError>
 /// Whether a path may go on from one leg to the next: up legs come first, and down legs last.
 #[tactic(auto, unfolding(epic_num::specs::Paths::are_lawful_kinds, epic_num::specs::Paths::kind_of))]
 fn may_follow(leg: &Leg, next: &Leg) -> bool
-    ensures { result ≡ are_lawful_kinds (kind_of leg.now.segment.kind leg.now.against ∷ kind_of next.now.segment.kind next.now.against ∷ []) }
+    ensures { result ≡ are_lawful_kinds (kind_of leg.now.segment.kind leg.now.against
+        ∷ kind_of next.now.segment.kind next.now.against ∷ []) }
 {
     match (leg.segment.kind, leg.against) {
         (SegKind::Child, true) => next.segment.kind == SegKind::Core || !next.against,

@@ -29,9 +29,9 @@ fn sort(paths: &mut Vec<PathRef>)
     paths.sort_unstable_by(compare);
 }
 
-/// Every path from one AS to another over the segments, or `TooMany` where there are more than `most`. A path is named by the
-/// last issue of each of its segments. They are ordered by their number of hops and then by the list of issues. There is
-/// none from an AS to itself.
+/// Every path from one AS to another over the segments, or `TooMany` where there are more than `most`. A path is named
+/// by the last issue of each of its segments. The paths are ordered by their numbers of hops and then by their lists of
+/// issues. There is none from an AS to itself.
 pub fn all_paths(
     alloc: Global,
     segments: &[Segment],
@@ -51,7 +51,7 @@ pub fn all_paths(
         return Ok(PathList::from_vec(found));
     }
     let search = Search::new(alloc, segments, to, most)?;
-    search.climb(&mut found, segments, from)?;
+    search.find_from(&mut found, segments, from)?;
     sort(&mut found);
     Ok(PathList::from_vec(found))
 }

@@ -1,7 +1,7 @@
 //! The search for the paths to one AS.
 ghost use Rattle.std.specs.Prelude.{◌≡◌, [], ◌∷◌, ◌++◌, ◌+◌, ◌<◌, ◌≤◌, All, IfOk, IfSome, IsTrue, OnOk, flat_map, length};
 ghost use Rattle.epic_num.specs.Segments.{is_well_formed};
-ghost use Rattle.epic_path.specs.Search.{Finds, arrived, climbed, core_links, crossed, extended, finished, last_links, links_at, no_path, onward, up_links};
+ghost use Rattle.epic_path.specs.Search.{Finds, core_links, extended, last_links, links_at, no_path, onward, paths_down, paths_ended, paths_from, paths_over_core, up_links};
 
 use crate::ends::{first_as, last_as};
 use crate::joining::MOST_HOPS;
@@ -98,8 +98,10 @@ impl Search {
         requires { All (λ s. IsTrue (is_well_formed s)) segments.now }
         ensures to { IfOk result (λ search. search.to ≡ to) }
         ensures most { IfOk result (λ search. search.most ≡ most) }
-        ensures cores { IfOk result (λ search. (at : AsId) → links_at search.cores at ≡ core_links segments.now at) }
-        ensures downs { IfOk result (λ search. (at : AsId) → links_at search.downs at ≡ last_links to segments.now at) }
+        ensures cores { IfOk result (λ search. (at : AsId)
+            → links_at search.cores at ≡ core_links segments.now at) }
+        ensures downs { IfOk result (λ search. (at : AsId)
+            → links_at search.downs at ≡ last_links to segments.now at) }
     {
         let mut search = Search {
             to,
@@ -129,10 +131,16 @@ impl Search {
     }
 
     /// Finds `path`, which has come to `at`, if that is where paths end.
-    #[tactic(auto, unfolding(epic_num::specs::Same::same_as, crate::specs::Search::arrived))]
-    fn arrive(&self, found: &mut Vec<PathRef>, path: &PathRef, at: AsId) -> Result<(), PathsError>
+    #[tactic(auto, unfolding(epic_num::specs::Same::same_as, crate::specs::Search::paths_ended))]
+    fn find_ended(
+        &self,
+        found: &mut Vec<PathRef>,
+        path: &PathRef,
+        at: AsId,
+    ) -> Result<(), PathsError>
         requires room { length found.old.items ≤ self.now.most }
-        ensures finds { Finds self.now.most found.old.items (arrived self.now.to path.now at) found.new.items result }
+        ensures finds { Finds self.now.most found.old.items
+            (paths_ended self.now.to path.now at) found.new.items result }
         ensures fits { OnOk result (length found.new.items ≤ self.now.most) }
     {
         if at == self.to {
@@ -144,7 +152,7 @@ impl Search {
 
     /// Finds the path that goes on from `path` over `down`, and ends there.
     #[tactic(auto, unfolding(crate::specs::Search::onward))]
-    fn finish_over(
+    fn find_over_down(
         &self,
         found: &mut Vec<PathRef>,
         path: &PathRef,
@@ -152,7 +160,8 @@ impl Search {
     ) -> Result<(), PathsError>
         requires legs { length path.now.issues.items < 3 }
         requires room { length found.old.items ≤ self.now.most }
-        ensures finds { Finds self.now.most found.old.items (onward (λ p end. p ∷ []) path.now down.now) found.new.items result }
+        ensures finds { Finds self.now.most found.old.items
+            (onward (λ p end. p ∷ []) path.now down.now) found.new.items result }
         ensures fits { OnOk result (length found.new.items ≤ self.now.most) }
     {
         match extended(path, down) {
@@ -162,22 +171,28 @@ impl Search {
     }
 
     /// Finds the paths that begin with `path`, which has come to `at`, and end there or over a link down from there.
-    fn finish(&self, found: &mut Vec<PathRef>, path: &PathRef, at: AsId) -> Result<(), PathsError>
+    fn find_down(
+        &self,
+        found: &mut Vec<PathRef>,
+        path: &PathRef,
+        at: AsId,
+    ) -> Result<(), PathsError>
         requires legs { length path.now.issues.items < 3 }
         requires room { length found.old.items ≤ self.now.most }
-        ensures finds { Finds self.now.most found.old.items (finished (links_at self.now.downs) self.now.to path.now at)
-            found.new.items result }
+        ensures finds { Finds self.now.most found.old.items
+            (paths_down (links_at self.now.downs) self.now.to path.now at) found.new.items result }
         ensures fits { OnOk result (length found.new.items ≤ self.now.most) }
     {
-        self.arrive(found, path, at)?;
+        self.find_ended(found, path, at)?;
         for down in self.downs.at(at) {
-            self.finish_over(found, path, down)?;
+            self.find_over_down(found, path, down)?;
         }
         Ok(())
     }
 
+    /// Finds the paths that go on from `path` over `core`, and end there or over a link down from there.
     #[tactic(auto, unfolding(crate::specs::Search::onward))]
-    fn cross_over(
+    fn find_after_core(
         &self,
         found: &mut Vec<PathRef>,
         path: &PathRef,
@@ -186,32 +201,38 @@ impl Search {
         requires legs { length path.now.issues.items < 2 }
         requires room { length found.old.items ≤ self.now.most }
         ensures finds { Finds self.now.most found.old.items
-            (onward (finished (links_at self.now.downs) self.now.to) path.now core.now) found.new.items result }
+            (onward (paths_down (links_at self.now.downs) self.now.to) path.now core.now) found.new.items result }
         ensures fits { OnOk result (length found.new.items ≤ self.now.most) }
     {
         match extended(path, core) {
-            Some(longer) => self.finish(found, &longer, core.end),
+            Some(longer) => self.find_down(found, &longer, core.end),
             None => Ok(()),
         }
     }
 
-    /// As `finish`, and also over a core link before that.
-    fn cross(&self, found: &mut Vec<PathRef>, path: &PathRef, at: AsId) -> Result<(), PathsError>
+    /// Finds what `find_down` does, and the paths that go over a core link before that.
+    fn find_over_core(
+        &self,
+        found: &mut Vec<PathRef>,
+        path: &PathRef,
+        at: AsId,
+    ) -> Result<(), PathsError>
         requires legs { length path.now.issues.items < 2 }
         requires room { length found.old.items ≤ self.now.most }
         ensures finds { Finds self.now.most found.old.items
-            (crossed (links_at self.now.cores) (links_at self.now.downs) self.now.to path.now at) found.new.items result }
+            (paths_over_core (links_at self.now.cores) (links_at self.now.downs) self.now.to path.now at)
+            found.new.items result }
         ensures fits { OnOk result (length found.new.items ≤ self.now.most) }
     {
-        self.finish(found, path, at)?;
+        self.find_down(found, path, at)?;
         for core in self.cores.at(at) {
-            self.cross_over(found, path, core)?;
+            self.find_after_core(found, path, core)?;
         }
         Ok(())
     }
 
-    /// As `cross`, from the start of a path over the link up of one segment, if it has one.
-    fn climb_over(
+    /// Finds the paths that begin over the link up of one segment, if it has one that leads away from `from`.
+    fn find_after_up(
         &self,
         found: &mut Vec<PathRef>,
         segment: &Segment,
@@ -219,22 +240,22 @@ impl Search {
     ) -> Result<(), PathsError>
         requires formed { IsTrue (is_well_formed segment.now) }
         requires room { length found.old.items ≤ self.now.most }
-        ensures finds { Finds self.now.most found.old.items
-            (flat_map (onward (crossed (links_at self.now.cores) (links_at self.now.downs) self.now.to) no_path)
-            (up_links (segment.now ∷ []) from)) found.new.items result }
+        ensures finds { let rest = paths_over_core (links_at self.now.cores) (links_at self.now.downs) self.now.to
+            in Finds self.now.most found.old.items
+            (flat_map (onward rest no_path) (up_links (segment.now ∷ []) from)) found.new.items result }
         ensures fits { OnOk result (length found.new.items ≤ self.now.most) }
     {
         let Some(up) = up_link(from, segment) else {
             return Ok(());
         };
         match extended(&no_path(), &up) {
-            Some(longer) => self.cross(found, &longer, up.end),
+            Some(longer) => self.find_over_core(found, &longer, up.end),
             None => Ok(()),
         }
     }
 
     /// Finds the paths from `from`, in no order.
-    pub fn climb(
+    pub fn find_from(
         &self,
         found: &mut Vec<PathRef>,
         segments: &[Segment],
@@ -243,13 +264,13 @@ impl Search {
         requires formed { All (λ s. IsTrue (is_well_formed s)) segments.now }
         requires room { length found.old.items ≤ self.now.most }
         ensures finds { Finds self.now.most found.old.items
-            (climbed (up_links segments.now from) (links_at self.now.cores) (links_at self.now.downs) from self.now.to)
-            found.new.items result }
+            (paths_from (up_links segments.now from) (links_at self.now.cores) (links_at self.now.downs)
+            from self.now.to) found.new.items result }
         ensures fits { OnOk result (length found.new.items ≤ self.now.most) }
     {
-        self.cross(found, &no_path(), from)?;
+        self.find_over_core(found, &no_path(), from)?;
         for segment in segments {
-            self.climb_over(found, segment, from)?;
+            self.find_after_up(found, segment, from)?;
         }
         Ok(())
     }

@@ -19,15 +19,15 @@ returns-then-eq-clause-fits c =
     let none = ap length (none_to_itself c.args.segments.now c.args.from c.args.to (sym c.eq.ensures ∙ c.if-eq.true)) in
     omega arith
 
-pub returns-in_err-climb-clause-too_many : goal.returns-in_err-climb-clause-too_many
+pub returns-in_err-find_from-clause-too_many : goal.returns-in_err-find_from-clause-too_many
 unfolding same_as
-returns-in_err-climb-clause-too_many c = λ told.
-    let p = err_from_is_err_and c.from_residual-in_err-climb.result c.from_residual-in_err-climb.ensures.1 in
+returns-in_err-find_from-clause-too_many c = λ told.
+    let p = err_from_is_err_and c.from_residual-in_err-find_from.result c.from_residual-in_err-find_from.ensures.1 in
     let same = p.1 in let gives = p.2 in
-    let is : c.in_err-climb.field-0.0 ≡ TooMany = cc in
+    let is : c.in_err-find_from.field-0.0 ≡ TooMany = cc in
     too_many c.args.segments.now c.args.from c.args.to (links_at c.in_ok-search.search.cores) (links_at c.in_ok-search.search.downs) c.in_ok-search.search.to
     (sym c.eq.ensures ∙ c.if-eq.false) c.in_ok-search.ensures.to c.in_ok-search.ensures.cores c.in_ok-search.ensures.downs
-    c.in_ok-search.search.most c.args.most c.new-found.result.items c.climb.new.found.items c.in_err-climb.field-0.0 c.new-found.ensures.items c.in_ok-search.ensures.most c.in_err-climb.ensures.finds is
+    c.in_ok-search.search.most c.args.most c.new-found.result.items c.find_from.new.found.items c.in_err-find_from.field-0.0 c.new-found.ensures.items c.in_ok-search.ensures.most c.in_err-find_from.ensures.finds is
 
 pub returns-clause-ok : goal.returns-clause-ok
 unfolding same_as
@@ -35,14 +35,14 @@ returns-clause-ok c =
     c.from_vec-2.ensures
     ∙ sorted_all c.args.segments.now c.args.from c.args.to (links_at c.in_ok-search.search.cores) (links_at c.in_ok-search.search.downs) c.in_ok-search.search.to
     (sym c.eq.ensures ∙ c.if-eq.false) c.in_ok-search.ensures.to c.in_ok-search.ensures.cores c.in_ok-search.ensures.downs
-    c.new-found.result.items c.climb.new.found.items c.sort.new.paths.items c.new-found.ensures.items c.in_ok-climb.ensures.finds c.sort.ensures.permutation c.sort.ensures.sorted
+    c.new-found.result.items c.find_from.new.found.items c.sort.new.paths.items c.new-found.ensures.items c.in_ok-find_from.ensures.finds c.sort.ensures.permutation c.sort.ensures.sorted
 
 pub returns-clause-fits : goal.returns-clause-fits
 unfolding same_as
 returns-clause-fits c =
     few c.args.segments.now c.args.from c.args.to (links_at c.in_ok-search.search.cores) (links_at c.in_ok-search.search.downs) c.in_ok-search.search.to
     (sym c.eq.ensures ∙ c.if-eq.false) c.in_ok-search.ensures.to c.in_ok-search.ensures.cores c.in_ok-search.ensures.downs
-    c.in_ok-search.search.most c.args.most c.new-found.result.items c.climb.new.found.items c.new-found.ensures.items c.in_ok-search.ensures.most c.in_ok-climb.ensures.finds c.in_ok-climb.ensures.fits
+    c.in_ok-search.search.most c.args.most c.new-found.result.items c.find_from.new.found.items c.new-found.ensures.items c.in_ok-search.ensures.most c.in_ok-find_from.ensures.finds c.in_ok-find_from.ensures.fits
 
 pub returns-then-eq-clause-every_path : goal.returns-then-eq-clause-every_path
 unfolding same_as
