@@ -1,6 +1,9 @@
+mod ByteLemmas
+mod LaneLemmas
+mod MixLemmas
 mod RoundLemmas
-mod TableLemmas
-mod WordLemmas
+mod ScheduleLemmas
+mod XorLemmas
 pub mod ChainLemmas
 pub mod CipherFacts
 pub mod StandardFacts

@@ -1,5 +1,5 @@
 -- AES-128 (FIPS 197) as a function on lists of bytes. Section numbers are the standard's.
-use Rattle.std.specs.Prelude.{ℕ, zero, suc, ◌+◌, ◌*◌, ◌-◌, ◌/◌, ◌%◌, ◌==◌, List, [], ◌∷◌, map, slice_index, bit_xor, if◌then◌else◌}
+use Rattle.std.specs.Prelude.{ℕ, zero, suc, ◌+◌, ◌*◌, ◌/◌, ◌%◌, ◌==◌, List, map, slice_index, bit_xor, if◌then◌else◌}
 use Rattle.std.specs.List.{range_with_len}
 use Rattle.epic_aes.specs.Field.{double, product, sbox}
 
@@ -14,33 +14,30 @@ abbrev pub state : (ℕ → ℕ → ℕ) → List ℕ
 state f = map (λ i. f (i % 4) (i / 4)) (range_with_len 0 16)
 
 -- SubBytes (5.1.1)
-abbrev pub substituted : List ℕ → List ℕ
-substituted s = state (λ r c. sbox (cell s r c))
+abbrev pub sub_bytes : List ℕ → List ℕ
+sub_bytes s = state (λ r c. sbox (cell s r c))
 
 -- ShiftRows: row r turns left by r (5.1.2)
-abbrev pub shifted : List ℕ → List ℕ
-shifted s = state (λ r c. cell s r ((c + r) % 4))
+abbrev pub shift_rows : List ℕ → List ℕ
+shift_rows s = state (λ r c. cell s r ((c + r) % 4))
 
--- the entry in row r and column j of the matrix of MixColumns: each row is the one above, turned right by one (5.1.3)
-abbrev pub coefficient : ℕ → ℕ → ℕ
-coefficient r j = slice_index (2 ∷ 3 ∷ 1 ∷ 1 ∷ []) ((j + 4 - r) % 4)
-
--- MixColumns: each column is multiplied by the matrix (5.1.3)
-abbrev pub mixed : List ℕ → List ℕ
-mixed s = state (λ r c. let term = λ (j : ℕ). product (coefficient r j) (cell s j c) in
-    bit_xor (bit_xor (bit_xor (term 0) (term 1)) (term 2)) (term 3))
+-- MixColumns: each column is multiplied by the matrix with first row 2, 3, 1, 1, in which each row is the one above it, turned
+-- right by one. So a byte becomes 2 times itself, 3 times the byte below it, and the two others, added (5.1.3).
+abbrev pub mix_columns : List ℕ → List ℕ
+mix_columns s = state (λ r c. let at = λ (j : ℕ). cell s ((r + j) % 4) c in
+    bit_xor (bit_xor (bit_xor (product 2 (at 0)) (product 3 (at 1))) (at 2)) (at 3))
 
 -- AddRoundKey (5.1.4)
-abbrev pub keyed : List ℕ → List ℕ → List ℕ
-keyed s k = state (λ r c. bit_xor (cell s r c) (cell k r c))
+abbrev pub add_round_key : List ℕ → List ℕ → List ℕ
+add_round_key s k = state (λ r c. bit_xor (cell s r c) (cell k r c))
 
 -- a round under its key (5.1), and the last one
 abbrev pub round : List ℕ → List ℕ → List ℕ
-round s k = keyed (mixed (shifted (substituted s))) k
+round s k = add_round_key (mix_columns (shift_rows (sub_bytes s))) k
 
 -- the last round, which does not mix (5.1)
 abbrev pub last_round : List ℕ → List ℕ → List ℕ
-last_round s k = keyed (shifted (substituted s)) k
+last_round s k = add_round_key (shift_rows (sub_bytes s)) k
 
 -- the constant of round key r + 1: x^r (5.2)
 unfoldable pub round_constant : ℕ → ℕ
@@ -69,7 +66,7 @@ round_key key (suc r) = next_key (round_key key r) (round_constant r)
 
 -- the state after the first round key and r rounds (5.1)
 unfoldable pub after_rounds : List ℕ → List ℕ → ℕ → List ℕ
-after_rounds key block zero = keyed block (round_key key 0)
+after_rounds key block zero = add_round_key block (round_key key 0)
 after_rounds key block (suc r) = round (after_rounds key block r) (round_key key (suc r))
 
 -- the ciphertext of a block under a key: nine rounds and the last (5.1)

@@ -27,10 +27,10 @@ unfoldable pub inverse : ℕ → ℕ
 inverse b = inverse_power 7 b
 
 -- bit i is the sum of the bits i, i + 4, i + 5, i + 6 and i + 7 of b, modulo 8, and of bit i of 0x63 (5.1.1)
-unfoldable pub affine : ℕ → ℕ
-affine b =
+unfoldable pub affine_image : ℕ → ℕ
+affine_image b =
     bit_xor (bit_xor (bit_xor (bit_xor (bit_xor b (rotate_left w8 b 4)) (rotate_left w8 b 3)) (rotate_left w8 b 2)) (rotate_left w8 b 1)) 0x63
 
 -- the S-box (5.1.1)
 unfoldable pub sbox : ℕ → ℕ
-sbox b = affine (inverse b)
+sbox b = affine_image (inverse b)

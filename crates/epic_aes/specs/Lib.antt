@@ -1,4 +1,5 @@
 pub mod Field
 pub mod Cipher
-pub mod Words
 pub mod Chain
+pub mod Lanes
+pub mod Keys

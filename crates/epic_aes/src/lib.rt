@@ -3,7 +3,9 @@
 
 mod block;
 mod cipher;
+mod lanes;
 mod rounds;
+mod schedule;
 mod tables;
 #[cfg(test)]
 mod tests;

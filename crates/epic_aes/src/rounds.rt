@@ -1,128 +1,69 @@
-//! The steps of the cipher and of its key schedule on four words, each a column whose first byte is the highest.
+//! The cipher's steps on vectors. ShiftRows moves nothing from round to round: row r lies turned left by `turn` times r, and the
+//! tables of neighbours follow.
 
-ghost use Rattle.std.specs.Prelude.{◌≡◌, ◌<◌, [], ◌∷◌, slice_index};
-ghost use Rattle.std.specs.Int.{w32, to_be_bytes};
-ghost use Rattle.epic_aes.specs.Cipher.{keyed, round, last_round, next_key};
-ghost use Rattle.epic_aes.specs.Words.{bytes_of, mixed_column, substituted_column, word_sum};
+ghost use Rattle.std.specs.Prelude.{◌≡◌, ◌+◌, ◌%◌, ◌<◌, [], slice_index_or};
+ghost use Rattle.epic_aes.specs.Cipher.{add_round_key, round, last_round};
+ghost use Rattle.epic_aes.specs.Lanes.{AreBytes, mixed_lanes, state_of, key_of};
 
-use crate::tables::{mix_first, mix_fourth, mix_second, mix_third, substitute};
+use crate::lanes::{half_sum, halves, look_up, nibble_sum};
+use crate::tables::{
+    ABOVE, BELOW, ENTER_HIGH, ENTER_LOW, LAST, LEAVE_HIGH, LEAVE_LOW, ONE_FIRST, ONE_SECOND,
+    TWO_FIRST, TWO_SECOND,
+};
+use std::simd::prelude::*;
 
-pub(crate) type Words = [u32; 4];
-
-fn word(a: u8, b: u8, c: u8, d: u8) -> u32
-    ensures { to_be_bytes w32 result ≡ a ∷ b ∷ c ∷ d ∷ [] }
+/// The lanes that stand for the bytes of a block.
+#[inline(always)]
+pub(crate) fn enter(block: u8x16) -> u8x16
+    ensures value { state_of 0 result ≡ block }
+    ensures bytes { AreBytes result }
 {
-    u32::from_be_bytes([a, b, c, d])
+    nibble_sum(ENTER_LOW, ENTER_HIGH, block)
 }
 
-fn byte(word: u32, row: usize) -> u8
-    requires { row < 4 }
-    ensures { result ≡ slice_index (to_be_bytes w32 word) row }
+/// The bytes of the block that lanes stand for.
+#[inline(always)]
+pub(crate) fn leave(x: u8x16) -> u8x16
+    ensures { result ≡ state_of 0 x }
 {
-    word.to_be_bytes()[row]
+    nibble_sum(LEAVE_LOW, LEAVE_HIGH, x)
 }
 
-pub(crate) fn load(block: &[u8; 16]) -> Words
-    ensures { bytes_of result ≡ block.now }
+#[inline(always)]
+pub(crate) fn sum(x: u8x16, y: u8x16) -> u8x16
+    ensures { state_of 0 result ≡ add_round_key (state_of 0 x) (state_of 0 y) }
 {
-    [
-        word(block[0], block[1], block[2], block[3]),
-        word(block[4], block[5], block[6], block[7]),
-        word(block[8], block[9], block[10], block[11]),
-        word(block[12], block[13], block[14], block[15]),
-    ]
+    x ^ y
 }
 
-pub(crate) fn bytes(words: Words) -> [u8; 16]
-    ensures { result ≡ bytes_of words }
+// MixColumns and AddRoundKey, where rows lie turned by `turn`.
+#[inline(always)]
+fn mix(one: u8x16, two: u8x16, key: u8x16, turn: usize) -> u8x16
+    requires { turn < 4 }
+    ensures { result ≡ mixed_lanes one two key (slice_index_or BELOW turn []) (slice_index_or ABOVE turn []) }
 {
-    let [a, b, c, d] = words;
-    [
-        byte(a, 0),
-        byte(a, 1),
-        byte(a, 2),
-        byte(a, 3),
-        byte(b, 0),
-        byte(b, 1),
-        byte(b, 2),
-        byte(b, 3),
-        byte(c, 0),
-        byte(c, 1),
-        byte(c, 2),
-        byte(c, 3),
-        byte(d, 0),
-        byte(d, 1),
-        byte(d, 2),
-        byte(d, 3),
-    ]
+    let below = u8x16::from_array(BELOW[turn]);
+    let sum = two ^ look_up(one, below);
+    sum ^ (look_up(one, u8x16::from_array(ABOVE[turn])) ^ key) ^ look_up(sum, below)
 }
 
-fn add(a: u32, b: u32) -> u32
-    ensures { to_be_bytes w32 result ≡ word_sum (to_be_bytes w32 a) (to_be_bytes w32 b) }
+/// A round. The rows of `x` lie turned by one more than `turn`, and those of the key and of the result by `turn`.
+#[inline(always)]
+pub(crate) fn round(x: u8x16, key: u8x16, turn: usize) -> u8x16
+    requires { turn < 4 }
+    ensures { state_of turn result ≡ round (state_of ((turn + 1) % 4) x) (key_of turn key) }
 {
-    a ^ b
+    let halves = halves(x);
+    let one = half_sum(ONE_FIRST, ONE_SECOND, halves);
+    let two = half_sum(TWO_FIRST, TWO_SECOND, halves);
+    mix(one, two, key, turn)
 }
 
-fn mix_column(a: u8, b: u8, c: u8, d: u8, key: u32) -> u32
-    ensures { to_be_bytes w32 result ≡ mixed_column a b c d (to_be_bytes w32 key) }
+/// The last round. The rows of `x` lie turned by 3, those of the key by 2, and those of the result not at all.
+#[inline(always)]
+pub(crate) fn last_round(x: u8x16, key: u8x16) -> u8x16
+    ensures { state_of 0 result ≡ last_round (state_of 3 x) (key_of 2 key) }
 {
-    mix_first(a) ^ mix_second(b) ^ mix_third(c) ^ mix_fourth(d) ^ key
-}
-
-fn last_column(a: u8, b: u8, c: u8, d: u8, key: u32) -> u32
-    ensures { to_be_bytes w32 result ≡ substituted_column a b c d (to_be_bytes w32 key) }
-{
-    word(substitute(a), substitute(b), substitute(c), substitute(d)) ^ key
-}
-
-pub(crate) fn first_sum(block: &[u8; 16], key: Words) -> Words
-    ensures { bytes_of result ≡ keyed block.now (bytes_of key) }
-{
-    let [a, b, c, d] = load(block);
-    [
-        add(a, key[0]),
-        add(b, key[1]),
-        add(c, key[2]),
-        add(d, key[3]),
-    ]
-}
-
-pub(crate) fn round(words: Words, key: Words) -> Words
-    ensures { bytes_of result ≡ round (bytes_of words) (bytes_of key) }
-{
-    let [a, b, c, d] = words;
-    [
-        mix_column(byte(a, 0), byte(b, 1), byte(c, 2), byte(d, 3), key[0]),
-        mix_column(byte(b, 0), byte(c, 1), byte(d, 2), byte(a, 3), key[1]),
-        mix_column(byte(c, 0), byte(d, 1), byte(a, 2), byte(b, 3), key[2]),
-        mix_column(byte(d, 0), byte(a, 1), byte(b, 2), byte(c, 3), key[3]),
-    ]
-}
-
-pub(crate) fn last_round(words: Words, key: Words) -> Words
-    ensures { bytes_of result ≡ last_round (bytes_of words) (bytes_of key) }
-{
-    let [a, b, c, d] = words;
-    [
-        last_column(byte(a, 0), byte(b, 1), byte(c, 2), byte(d, 3), key[0]),
-        last_column(byte(b, 0), byte(c, 1), byte(d, 2), byte(a, 3), key[1]),
-        last_column(byte(c, 0), byte(d, 1), byte(a, 2), byte(b, 3), key[2]),
-        last_column(byte(d, 0), byte(a, 1), byte(b, 2), byte(c, 3), key[3]),
-    ]
-}
-
-pub(crate) fn next_key(key: Words, constant: u8) -> Words
-    ensures { bytes_of result ≡ next_key (bytes_of key) constant }
-{
-    let last = key[3];
-    let turned = word(
-        substitute(byte(last, 1)) ^ constant,
-        substitute(byte(last, 2)),
-        substitute(byte(last, 3)),
-        substitute(byte(last, 0)),
-    );
-    let first = add(key[0], turned);
-    let second = add(key[1], first);
-    let third = add(key[2], second);
-    [first, second, third, add(last, third)]
+    let one = half_sum(ONE_FIRST, ONE_SECOND, halves(x));
+    look_up(one ^ key, u8x16::from_array(LAST))
 }

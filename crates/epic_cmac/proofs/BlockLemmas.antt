@@ -4,8 +4,8 @@ use Rattle.std.specs.Simd.{first_chunks}
 use Rattle.std.proofs.lemmas.List.{take-take, drop-take, drop-drop}
 use Rattle.std.proofs.Math.Seq.{take-append_seam}
 use Rattle.epic_aes.specs.Cipher.{aes}
-use Rattle.epic_aes.specs.Chain.{block_sum, chained}
-use Rattle.epic_aes.proofs.ChainLemmas.{chained-append, chained-one}
+use Rattle.epic_aes.specs.Chain.{block_sum, chain}
+use Rattle.epic_aes.proofs.ChainLemmas.{chain-append, chain-one}
 use Rattle.epic_cmac.specs.Cmac.{zero_block, last_block, count_before_last, blocks, cmac}
 
 -- the first k blocks lie within any prefix that is long enough
@@ -50,11 +50,11 @@ first_chunks-add (suc j) k m =
 
 -- the tag, from the chain over the blocks before the last and from the bytes of the last
 pub tag-cmac : (key message x rest : List ℕ) (count : ℕ) → count ≡ count_before_last message →
-    x ≡ chained key zero_block (first_chunks 16 count message) → rest ≡ drop (16 * count) message →
+    x ≡ chain key zero_block (first_chunks 16 count message) → rest ≡ drop (16 * count) message →
     aes key (block_sum x (last_block key rest)) ≡ cmac key message
 unfolding blocks cmac
 tag-cmac key message x rest count before state left =
     (λ i. aes key (block_sum (state i) (last_block key (left i))))
-    ∙ sym (chained-one key (chained key zero_block (first_chunks 16 count message)) (last_block key (drop (16 * count) message)))
-    ∙ sym (chained-append key zero_block (first_chunks 16 count message) (last_block key (drop (16 * count) message) ∷ []))
-    ∙ (λ i. chained key zero_block (first_chunks 16 (before i) message ++ last_block key (drop (16 * before i) message) ∷ []))
+    ∙ sym (chain-one key (chain key zero_block (first_chunks 16 count message)) (last_block key (drop (16 * count) message)))
+    ∙ sym (chain-append key zero_block (first_chunks 16 count message) (last_block key (drop (16 * count) message) ∷ []))
+    ∙ (λ i. chain key zero_block (first_chunks 16 (before i) message ++ last_block key (drop (16 * before i) message) ∷ []))

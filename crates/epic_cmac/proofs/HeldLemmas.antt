@@ -3,8 +3,8 @@ use Rattle.std.proofs.Common.{◌≡◌, ℕ, suc, ◌+◌, ◌-◌, ◌*◌, �
 use Rattle.std.specs.Simd.{first_chunks}
 use Rattle.std.proofs.lemmas.List.{drop-drop, drop-append-le, take-append-drop, take_all}
 use Rattle.std.proofs.Math.Seq.{take-append_seam, drop-append_seam}
-use Rattle.epic_aes.specs.Chain.{chained}
-use Rattle.epic_aes.proofs.ChainLemmas.{chained_none, chained-append}
+use Rattle.epic_aes.specs.Chain.{chain}
+use Rattle.epic_aes.proofs.ChainLemmas.{chain_none, chain-append}
 use Rattle.epic_cmac.specs.Cmac.{zero_block, count_before_last}
 use Rattle.epic_cmac.specs.Pieces.{IsHeld}
 use Rattle.epic_cmac.proofs.BlockLemmas.{first_chunks-add, first_chunks-append}
@@ -13,7 +13,7 @@ pub held_empty : (key buffer : List ℕ) → IsHeld key zero_block buffer 0 []
 held_empty key buffer = record {
   room = lit≤ tt;
   long = refl;
-  taken = sym (chained_none key zero_block []);
+  taken = sym (chain_none key zero_block []);
   left = refl;
 }
 
@@ -31,7 +31,7 @@ held_put key x buffer after message piece used held fits put =
       room = fits;
       long = omega arith;
       taken = held.taken
-          ∙ ap (chained key zero_block) (sym (first_chunks-append count message piece within)
+          ∙ ap (chain key zero_block) (sym (first_chunks-append count message piece within)
           ∙ ap (λ n. first_chunks 16 n (message ++ piece)) same);
       left = put
           ∙ ap (λ bytes. bytes ++ piece) held.left
@@ -49,9 +49,9 @@ two_parts full rest count long =
 
 -- the chain takes a whole buffer and the blocks of the rest before the last
 pub held_blocks : (key x y buffer message full rest last : List ℕ) (count more : ℕ) →
-    x ≡ chained key zero_block (first_chunks 16 count message) →
+    x ≡ chain key zero_block (first_chunks 16 count message) →
     drop (16 * count) message ≡ full ++ rest → length full ≡ 16 → 0 < length rest → more ≡ (length rest - 1) / 16 →
-    y ≡ chained key (chained key x (full ∷ [])) (first_chunks 16 more rest) →
+    y ≡ chain key (chain key x (full ∷ [])) (first_chunks 16 more rest) →
     last ≡ drop (16 * more) rest → take (length last) buffer ≡ last →
     IsHeld key y buffer (length last) message
 held_blocks key x y buffer message full rest last count more state left whole some cut step end kept =
@@ -77,10 +77,10 @@ held_blocks key x y buffer message full rest last count more state left whole so
       room = omega arith;
       long = omega arith;
       taken = step
-          ∙ sym (chained-append key x (full ∷ []) (first_chunks 16 more rest))
-          ∙ ap (λ z. chained key z (full ∷ first_chunks 16 more rest)) state
-          ∙ sym (chained-append key zero_block (first_chunks 16 count message) (full ∷ first_chunks 16 more rest))
-          ∙ ap (chained key zero_block) (sym blocks);
+          ∙ sym (chain-append key x (full ∷ []) (first_chunks 16 more rest))
+          ∙ ap (λ z. chain key z (full ∷ first_chunks 16 more rest)) state
+          ∙ sym (chain-append key zero_block (first_chunks 16 count message) (full ∷ first_chunks 16 more rest))
+          ∙ ap (chain key zero_block) (sym blocks);
       left = kept ∙ end ∙ sym rests;
     }
 
@@ -88,8 +88,8 @@ held_blocks key x y buffer message full rest last count more state left whole so
 pub held_spill : (key x y z buffer full after message piece front rest last : List ℕ) (used more : ℕ) →
     IsHeld key x buffer used message → 16 < used + length piece →
     front ≡ take (16 - used) piece → rest ≡ drop (16 - used) piece → length front ≡ 16 - used → length rest + (16 - used) ≡ length piece →
-    take (used + length front) full ≡ take used buffer ++ front → length full ≡ 16 → y ≡ chained key x (full ∷ []) →
-    more ≡ (length rest - 1) / 16 → z ≡ chained key y (first_chunks 16 more rest) →
+    take (used + length front) full ≡ take used buffer ++ front → length full ≡ 16 → y ≡ chain key x (full ∷ []) →
+    more ≡ (length rest - 1) / 16 → z ≡ chain key y (first_chunks 16 more rest) →
     last ≡ drop (16 * more) rest → take (length last) after ≡ last →
     IsHeld key z after (length last) (message ++ piece)
 held_spill key x y z buffer full after message piece front rest last used more held over front_is rest_is front_len rest_len filled whole first cut second end kept =
@@ -108,5 +108,5 @@ held_spill key x y z buffer full after message piece front rest last used more h
     ∙ sym (append_assoc (take used buffer) front rest)
     ∙ ap (λ bytes. bytes ++ rest) (sym full_is) in
     held_blocks key x z after (message ++ piece) full rest last count more
-    (held.taken ∙ ap (chained key zero_block) (sym (first_chunks-append count message piece within)))
-    left whole some cut (second ∙ ap (λ w. chained key w (first_chunks 16 more rest)) first) end kept
+    (held.taken ∙ ap (chain key zero_block) (sym (first_chunks-append count message piece within)))
+    left whole some cut (second ∙ ap (λ w. chain key w (first_chunks 16 more rest)) first) end kept

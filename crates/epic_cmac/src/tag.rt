@@ -3,12 +3,12 @@
 ghost use Rattle.std.specs.Prelude.{◌≡◌, ◌<◌, ◌≤◌, length};
 ghost use Rattle.epic_aes.specs.Cipher.{aes};
 ghost use Rattle.epic_aes.specs.Chain.{block_sum};
-ghost use Rattle.epic_cmac.specs.Cmac.{doubled, doubled_bits, first_subkey, last_block, padded};
+ghost use Rattle.epic_cmac.specs.Cmac.{block_double, bits_double, first_subkey, last_block, padded_block};
 
 use epic_aes::{Aes, block_sum};
 
-fn doubled_bits(bits: u128) -> u128
-    ensures { result ≡ doubled_bits bits }
+fn bits_double(bits: u128) -> u128
+    ensures { result ≡ bits_double bits }
 {
     let shifted = bits << 1;
     if bits < 1 << 127 {
@@ -18,11 +18,11 @@ fn doubled_bits(bits: u128) -> u128
     }
 }
 
-#[tactic(auto, unfolding(crate::specs::Cmac::doubled))]
-fn doubled(block: &[u8; 16]) -> [u8; 16]
-    ensures { result ≡ doubled block.now }
+#[tactic(auto, unfolding(crate::specs::Cmac::block_double))]
+fn block_double(block: &[u8; 16]) -> [u8; 16]
+    ensures { result ≡ block_double block.now }
 {
-    doubled_bits(u128::from_be_bytes(*block)).to_be_bytes()
+    bits_double(u128::from_be_bytes(*block)).to_be_bytes()
 }
 
 #[tactic(auto, unfolding(crate::specs::Cmac::first_subkey))]
@@ -31,12 +31,12 @@ fn first_subkey(cipher: &Aes) -> [u8; 16]
 {
     let mut block = [0; 16];
     cipher.encrypt(&mut block);
-    doubled(&block)
+    block_double(&block)
 }
 
-fn padded(rest: &[u8]) -> [u8; 16]
+fn padded_block(rest: &[u8]) -> [u8; 16]
     requires { length rest.now < 16 }
-    ensures { result ≡ padded rest.now }
+    ensures { result ≡ padded_block rest.now }
 {
     let mut block = [0; 16];
     block[..rest.len()].copy_from_slice(rest);
@@ -52,7 +52,7 @@ fn last_block(cipher: &Aes, rest: &[u8]) -> [u8; 16]
     let subkey = first_subkey(cipher);
     match rest.first_chunk::<16>() {
         Some(whole) => block_sum(whole, &subkey),
-        None => block_sum(&padded(rest), &doubled(&subkey)),
+        None => block_sum(&padded_block(rest), &block_double(&subkey)),
     }
 }
 

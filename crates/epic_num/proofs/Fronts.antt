@@ -4,7 +4,7 @@ use Rattle.std.specs.List.{list_all, position_or_len}
 use Rattle.std.specs.Option.{option_map, option_or}
 use Rattle.std.proofs.Math.Seq.{take-add}
 use Rattle.std.proofs.lemmas.Bool.{and_from, and_parts, eqb-true, eq-eqb, ltb-false}
-use Rattle.std.proofs.lemmas.List.{length-take, take_all, take_more, take-append-drop, take-append-le}
+use Rattle.std.proofs.lemmas.List.{append-nil, length-take, take_all, take_more, take-append-drop, take-append-le}
 use Rattle.std.proofs.lemmas.List.Quantifiers.{position-Some}
 use Rattle.std.proofs.lemmas.List.Sums.{fails_before_first}
 use Rattle.std.proofs.lemmas.Option.{none-some}
@@ -18,13 +18,9 @@ pub record HasText {A : Type 0} (f : List ℕ → Option A) : Type 0 where
   pub value : A
   pub read : f text ≡ Some value
 
-nothing_after : (text : List ℕ) → text ++ [] ≡ text
-nothing_after [] = refl
-nothing_after (x ∷ xs) = ap (λ t. x ∷ t) (nothing_after xs)
-
 -- a text of the form begins itself
 pub begins_whole : {A : Type 0} (f : List ℕ → Option A) (text : List ℕ) (a : A) → f text ≡ Some a → Begins f text
-begins_whole f text a e = record { rest = []; value = a; whole = ap f (nothing_after text) ∙ e }
+begins_whole f text a e = record { rest = []; value = a; whole = ap f (append-nil text) ∙ e }
 
 pub begins_front : {A : Type 0} (f : List ℕ → Option A) (xs ys : List ℕ) → Begins f (xs ++ ys) → Begins f xs
 begins_front f xs ys h = record { rest = ys ++ h.rest; value = h.value; whole = ap f (sym (append_assoc xs ys h.rest)) ∙ h.whole }

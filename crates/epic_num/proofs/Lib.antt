@@ -1,7 +1,9 @@
 pub mod ChainLaws
 mod Examples
+pub mod Fronts
 pub mod LevelLaws
 pub mod MessageLaws
+pub mod Misspelt
 pub mod MomentLaws
 pub mod Numerals
 pub mod OneSpelling
@@ -10,6 +12,4 @@ pub mod PathLaws
 pub mod Reading
 pub mod SameLaws
 pub mod Spelled
-pub mod Fronts
-pub mod Misspelt
 pub mod Stopped

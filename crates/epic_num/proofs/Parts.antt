@@ -17,9 +17,6 @@ module _ {A B : Type 0} (mark : ℕ) (f : List ℕ → Option A) (g : List ℕ �
   parted_both i a b pos before after =
       parted_at (Some i) pos ∙ ap (λ p. option_zip p (g (drop (i + 1) text))) before ∙ ap (option_zip (Some a)) after
 
-  pub parted_none : position (λ c. c == mark) text ≡ None → parted mark f g text ≡ None
-  parted_none pos = parted_at None pos
-
 -- the texts of a form that don't have the mark
 pub record IsUnmarked {A : Type 0} (mark : ℕ) (f : List ℕ → Option A) : Type 0 where
   pub none : (t : List ℕ) (a : A) → f t ≡ Some a → list_all (λ c. not (c == mark)) t ≡ true

@@ -6,6 +6,7 @@ use Rattle.std.specs.Str.Parse.{digits_value}
 use Rattle.std.proofs.Math.Nat.{mul-le-mul_left, div-eq_of_lt, div-lt_iff_lt-mul, mod-lt, mod-eq_of_lt, pow-suc, pow-zero}
 use Rattle.std.proofs.lemmas.Bool.{ne_eqb, eqb-true, eqb-false}
 use Rattle.std.proofs.lemmas.Grind.{common_steps}
+use Rattle.std.proofs.lemmas.List.{append-nil}
 use Rattle.std.proofs.lemmas.Nat.{div-add-mod', div-mul-add, mod-mul-add}
 use Rattle.epic_num.specs.Names.{is_digit_of}
 use Rattle.epic_num.proofs.Numerals.{IsNumeralWithin, numeral_front, numeral_last, numeral_more, numeral_one, one_numeral}
@@ -145,18 +146,14 @@ module _ (base most : ℕ) (low : 2 ≤ base) (high : base ≤ 16) where
       (subst (λ t. IsNumeralWithin base 0 most t n) s.2 h)
       ∙ ap (λ t. t ++ acc) (sym s.2)
 
-nothing_after : (text : List ℕ) → text ++ [] ≡ text
-nothing_after [] = refl
-nothing_after (x ∷ xs) = ap (λ t. x ∷ t) (nothing_after xs)
-
 -- the text of a number is a numeral, and the only one of its value
 pub digits_are_numeral : (base most n : ℕ) → 2 ≤ base → base ≤ 16 → n ≤ most → n < base ^ 64 → IsNumeralWithin base 0 most (digits base false n) n
 unfolding digits
 digits_are_numeral base most n low high fits small =
     let s = spelled base most low high 63 n [] fits small in
-    subst (λ t. IsNumeralWithin base 0 most t n) (sym (s.whole ∙ nothing_after s.text)) s.numeral
+    subst (λ t. IsNumeralWithin base 0 most t n) (sym (s.whole ∙ append-nil s.text)) s.numeral
 
 pub numeral_is_digits : (base most n : ℕ) (text : List ℕ) → 2 ≤ base → base ≤ 16 → n < base ^ 64 → IsNumeralWithin base 0 most text n → text ≡ digits base false n
 unfolding digits
 numeral_is_digits base most n text low high small h =
-    sym (unique base most low high 63 text n [] h small ∙ nothing_after text)
+    sym (unique base most low high 63 text n [] h small ∙ append-nil text)

@@ -1,12 +1,13 @@
-ghost use Rattle.std.specs.Prelude.{◌≡◌, ◌^◌, ◌<◌, length, IfOk, IfErr, None, Some};
+ghost use Rattle.std.specs.Prelude.{◌≡◌, ◌^◌, ◌<◌, length, IfOk, IfErr, Some};
 ghost use Rattle.epic_num.specs.Names.{as_of, host_of, number_within};
 ghost use Rattle.epic_num.specs.Spellings.{IsMisspelt};
 
 use crate::read_numeral::numeral;
-use crate::read_parts::{as_number, end_of, place_of};
+use crate::read_parts::{as_number, host};
 use crate::{AsId, HostId, Spelling};
 
-/// Reads an AS.
+/// Reads an AS, as `1-4711` or `1-ff00:0:112`: its isolation domain and its number there, neither of them 0. The number is
+/// written in decimal digits below 2^32, and from there on as three groups of lower-case hexadecimal digits.
 pub fn read_as(text: &[u8]) -> Result<AsId, Spelling>
     requires { length text.now < 2 ^ 32 }
     ensures ok { IfOk result (λ a. as_of text.now ≡ Some a.0) }
@@ -18,33 +19,19 @@ pub fn read_as(text: &[u8]) -> Result<AsId, Spelling>
     }
 }
 
-/// Reads a host.
+/// Reads a host, as `1-ff00:0:112,7`: its AS and its number there, below 2^32.
 pub fn read_host(text: &[u8]) -> Result<HostId, Spelling>
     requires { length text.now < 2 ^ 32 }
     ensures ok { IfOk result (λ h. host_of text.now ≡ Some h) }
     ensures err { IfErr result (λ s. IsMisspelt host_of text.now s.at) }
 {
-    let Some(i) = place_of(text, b',') else {
-        return Err(Spelling {
-            at: end_of(as_number(text), text.len()) as u32,
-        });
-    };
-    match (
-        as_number(&text[..i]),
-        numeral(&text[i + 1..], 10, 0, 0xffff_ffff),
-    ) {
-        (Err(at), _) => Err(Spelling { at: at as u32 }),
-        (Ok(_), Err(at)) => Err(Spelling {
-            at: (i + 1 + at) as u32,
-        }),
-        (Ok(a), Ok(host)) => Ok(HostId {
-            asn: AsId(a),
-            host: host as u32,
-        }),
+    match host(text) {
+        Ok(host) => Ok(host),
+        Err(at) => Err(Spelling { at: at as u32 }),
     }
 }
 
-/// Reads a decimal number of at most `most`.
+/// Reads a decimal number of at most `most`, without a sign and without a leading zero.
 pub fn read_number(text: &[u8], most: u64) -> Result<u64, Spelling>
     requires { length text.now < 2 ^ 32 }
     ensures ok { IfOk result (λ n. number_within most text.now ≡ Some n) }
@@ -55,3 +42,6 @@ pub fn read_number(text: &[u8], most: u64) -> Result<u64, Spelling>
         Err(at) => Err(Spelling { at: at as u32 }),
     }
 }
+
+#[cfg(test)]
+mod tests;

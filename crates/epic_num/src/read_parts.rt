@@ -1,10 +1,33 @@
 ghost use Rattle.std.specs.Prelude.{◌≡◌, ◌^◌, ◌<◌, ◌≤◌, ◌==◌, length, position, IfOk, IfErr, None, Some};
-ghost use Rattle.epic_num.specs.Names.{as_of, as_part_of, group_of, groups_of, isd_of, low_groups_of, small_part_of};
+ghost use Rattle.epic_num.specs.Names.{as_of, as_part_of, group_of, groups_of, host_of, isd_of, low_groups_of, small_part_of};
 ghost use Rattle.epic_num.specs.Spellings.{IsMisspelt};
 
 use crate::read_numeral::numeral;
+use crate::spelling::{AS_PARTS, GROUP_VALUES, SMALL_AS_PARTS};
+use crate::{AsId, HostId};
 
-/// Reads an AS as a number. An error is the length of the longest front that begins an AS, here and below.
+/// Reads a host. An error is the length of the longest front that begins a host, and likewise below.
+pub(crate) fn host(text: &[u8]) -> Result<HostId, usize>
+    ensures ok { IfOk result (λ h. host_of text.now ≡ Some h) }
+    ensures err { IfErr result (IsMisspelt host_of text.now) }
+{
+    let Some(i) = place_of(text, b',') else {
+        return Err(end_of(as_number(text), text.len()));
+    };
+    match (
+        as_number(&text[..i]),
+        numeral(&text[i + 1..], 10, 0, 0xffff_ffff),
+    ) {
+        (Err(at), _) => Err(at),
+        (Ok(_), Err(at)) => Err(i + 1 + at),
+        (Ok(a), Ok(host)) => Ok(HostId {
+            asn: AsId(a),
+            host: host as u32,
+        }),
+    }
+}
+
+/// Reads an AS as a number.
 pub(crate) fn as_number(text: &[u8]) -> Result<u64, usize>
     ensures ok { IfOk result (λ a. as_of text.now ≡ Some a) }
     ensures err { IfErr result (IsMisspelt as_of text.now) }
@@ -15,7 +38,7 @@ pub(crate) fn as_number(text: &[u8]) -> Result<u64, usize>
     match (isd(&text[..i]), as_part(&text[i + 1..])) {
         (Err(at), _) => Err(at),
         (Ok(_), Err(at)) => Err(i + 1 + at),
-        (Ok(isd), Ok(part)) => Ok(isd * 0x1_0000_0000_0000 + part),
+        (Ok(isd), Ok(part)) => Ok(isd * AS_PARTS + part),
     }
 }
 
@@ -62,7 +85,7 @@ fn groups(text: &[u8]) -> Result<u64, usize>
     match (group(&text[..i], 1), low_groups(&text[i + 1..])) {
         (Err(at), _) => Err(at),
         (Ok(_), Err(at)) => Err(i + 1 + at),
-        (Ok(high), Ok(low)) => Ok(high * 0x1_0000_0000 + low),
+        (Ok(high), Ok(low)) => Ok(high * SMALL_AS_PARTS + low),
     }
 }
 
@@ -78,7 +101,7 @@ fn low_groups(text: &[u8]) -> Result<u64, usize>
     match (group(&text[..i], 0), group(&text[i + 1..], 0)) {
         (Err(at), _) => Err(at),
         (Ok(_), Err(at)) => Err(i + 1 + at),
-        (Ok(high), Ok(low)) => Ok(high * 0x1_0000 + low),
+        (Ok(high), Ok(low)) => Ok(high * GROUP_VALUES + low),
     }
 }
 
@@ -93,14 +116,14 @@ fn group(text: &[u8], least: u64) -> Result<u64, usize>
 }
 
 /// The first place of the byte.
-pub(crate) fn place_of(text: &[u8], byte: u8) -> Option<usize>
+fn place_of(text: &[u8], byte: u8) -> Option<usize>
     ensures { result ≡ position (λ b. b == byte) text.now }
 {
     text.iter().position(|b| *b == byte)
 }
 
 /// Where a text without a mark ends, whose part before the mark would be all of it.
-pub(crate) fn end_of(part: Result<u64, usize>, len: usize) -> usize
+fn end_of(part: Result<u64, usize>, len: usize) -> usize
     ensures ok { IfOk part (λ n. result ≡ len) }
     ensures err { IfErr part (λ at. result ≡ at) }
 {

@@ -2,6 +2,15 @@ ghost use Rattle.std.specs.Prelude.{ℕ, ◌^◌, ◌<◌, ◌≤◌, decimal};
 ghost use Rattle.epic_num.specs.Names.{as_of, as_text, host_of, host_text, number_within, IsReadable, IsReadableHost};
 ghost use Rattle.epic_num.specs.Spellings.{HasOneSpelling};
 
+/// How many numbers an isolation domain has for its ASes.
+pub(crate) const AS_PARTS: u64 = 0x1_0000_0000_0000;
+
+/// How many of them are written in decimal digits.
+pub(crate) const SMALL_AS_PARTS: u64 = 0x1_0000_0000;
+
+/// How many numbers a group of hexadecimal digits has.
+pub(crate) const GROUP_VALUES: u64 = 0x1_0000;
+
 /// A text isn't of its form.
 #[derive(Clone, Copy, Debug, PartialEq, Eq)]
 pub struct Spelling {

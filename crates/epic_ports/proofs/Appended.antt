@@ -8,7 +8,10 @@ Appends-none None = tt
 Appends-none (Some w) = sym (append-nil w)
 
 -- a piece and then another is both together
-pub Appends-trans : (u v w : Option (List ℕ)) (a b : List ℕ) → Appends u v a → Appends v w b → Appends u w (a ++ b)
+pub Appends-trans : (u v w : Option (List ℕ)) (a b : List ℕ)
+    → Appends u v a
+    → Appends v w b
+    → Appends u w (a ++ b)
 Appends-trans None v w a b first second = tt
 Appends-trans (Some u) None w a b first second = absurd first
 Appends-trans (Some u) (Some v) None a b first second = absurd second
@@ -21,12 +24,17 @@ Appends-kept (Some v) None keeps = absurd keeps
 Appends-kept (Some v) (Some w) keeps = keeps ∙ sym (append-nil v)
 
 -- after a piece was written, a front of the next piece was written
-pub AppendsFront-after : (u v w : Option (List ℕ)) (a b : List ℕ) → Appends u v a → AppendsFront v w b → AppendsFront u w (a ++ b)
+pub AppendsFront-after : (u v w : Option (List ℕ)) (a b : List ℕ)
+    → Appends u v a
+    → AppendsFront v w b
+    → AppendsFront u w (a ++ b)
 AppendsFront-after u v w a b first (front, back, is, second) =
     (a ++ front, back, ap (λ x. a ++ x) is ∙ sym (append_assoc a front back), Appends-trans u v w a front first second)
 
 -- a front of a piece is a front of what begins with that piece
-pub AppendsFront-more : (u v : Option (List ℕ)) (a b : List ℕ) → AppendsFront u v a → AppendsFront u v (a ++ b)
+pub AppendsFront-more : (u v : Option (List ℕ)) (a b : List ℕ)
+    → AppendsFront u v a
+    → AppendsFront u v (a ++ b)
 AppendsFront-more u v a b (front, back, is, first) =
     (front, back ++ b, ap (λ x. x ++ b) is ∙ append_assoc front back b, first)
 

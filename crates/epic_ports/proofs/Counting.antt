@@ -11,9 +11,15 @@ pub counts_same : (name : List ℕ) (f g : List ℕ → ℕ) → g ≡ f → Cou
 counts_same name f g same = rw same (record { later = omega arith; others = λ q other. refl })
 
 -- a fault was counted after the counts had stayed
-pub counts_fault : (name : List ℕ) (f g h : List ℕ → ℕ) → g ≡ f → CountsFault name g h → CountsOnly name f h
+pub counts_fault : (name : List ℕ) (f g h : List ℕ → ℕ)
+    → g ≡ f
+    → CountsFault name g h
+    → CountsOnly name f h
 counts_fault name f g h same fault = rw (← same) (record { later = fault.later; others = fault.others })
 
 -- so the count rose
-pub rose_after : (name : List ℕ) (f g h : List ℕ → ℕ) → g ≡ f → CountsFault name g h → Rose (f name) (h name)
+pub rose_after : (name : List ℕ) (f g h : List ℕ → ℕ)
+    → g ≡ f
+    → CountsFault name g h
+    → Rose (f name) (h name)
 rose_after name f g h same fault = rw (← same, fault.once) (omega arith)

@@ -45,7 +45,10 @@ pub record StandsAt (files : List File) (name : List ℕ) (i : ℕ) (file : File
   pub is : get_or files i file ≡ file
   pub name_is : string_bytes file.0 ≡ name
 
-pub stands_at : (files : List File) (name : List ℕ) (i : ℕ) (file : File) → position (is_named name) files ≡ Some i → file ≡ get_or files i file → StandsAt files name i file
+pub stands_at : (files : List File) (name : List ℕ) (i : ℕ) (file : File)
+    → position (is_named name) files ≡ Some i
+    → file ≡ get_or files i file
+    → StandsAt files name i file
 stands_at files name i file place is =
     let found = position-Some (is_named name) files i file place in
     let here : is_named name file ≡ true = rw is found.1 in
@@ -57,21 +60,28 @@ stands_at files name i file place is =
     }
 
 -- its bytes are those of the name
-pub found_file : (files : List File) (name : List ℕ) (i : ℕ) (file : File) → StandsAt files name i file → files_in files name ≡ Some file.1.items
+pub found_file : (files : List File) (name : List ℕ) (i : ℕ) (file : File)
+    → StandsAt files name i file
+    → files_in files name ≡ Some file.1.items
 found_file files name i file at =
     let first : find (is_named name) files ≡ slice_get files i = rw at.first (find_at (is_named name) files) in
     let here : slice_get files i ≡ Some file = rw (slice_get-get_or files i file at.below, at.is) refl in
     ap bytes_in (first ∙ here)
 
 -- a name that wasn't found isn't there
-pub missing_file : (files : List File) (name : List ℕ) → position (is_named name) files ≡ None → files_in files name ≡ None
+pub missing_file : (files : List File) (name : List ℕ)
+    → position (is_named name) files ≡ None
+    → files_in files name ≡ None
 missing_file files name none =
     let place = position_or_len (is_named name) files in
     let past : length files ≤ place = grind (arith, nat_tests) in
     ap bytes_in (find_at (is_named name) files ∙ slice_get_past files place past)
 
 -- a file that was found got other bytes
-pub set_file : (files : List File) (name : List ℕ) (i : ℕ) (old new : File) → StandsAt files name i old → string_bytes new.0 ≡ string_bytes old.0 → Replaces (Some (files_in files)) (Some (files_in (set files i new))) name new.1.items
+pub set_file : (files : List File) (name : List ℕ) (i : ℕ) (old new : File)
+    → StandsAt files name i old
+    → string_bytes new.0 ≡ string_bytes old.0
+    → Replaces (Some (files_in files)) (Some (files_in (set files i new))) name new.1.items
 set_file files name i old new at same =
     let new_name : string_bytes new.0 ≡ name = same ∙ at.name_is in
     let here : is_named name new ≡ true = (bytes_eq-Decides (string_bytes new.0) name).1 new_name in (
@@ -83,14 +93,21 @@ set_file files name i old new at same =
     )
 
 -- a file that was found was written with the bytes that it had
-pub keep_file : (files : List File) (name : List ℕ) (i : ℕ) (old new : File) → StandsAt files name i old → string_bytes new.0 ≡ string_bytes old.0 → new.1.items ≡ old.1.items → files_in (set files i new) ≡ files_in files
+pub keep_file : (files : List File) (name : List ℕ) (i : ℕ) (old new : File)
+    → StandsAt files name i old
+    → string_bytes new.0 ≡ string_bytes old.0
+    → new.1.items ≡ old.1.items
+    → files_in (set files i new) ≡ files_in files
 keep_file files name i old new at same kept =
     let replaced = set_file files name i old new at same in
     let here : files_in (set files i new) name ≡ files_in files name = replaced.0 ∙ ap (λ x. Some x) kept ∙ sym (found_file files name i old at) in
     same_counts_of (λ q. by_name q name (λ e. rw e here) (λ other. replaced.1 q other))
 
 -- a file of a name that wasn't there was added
-pub push_file : (files : List File) (name : List ℕ) (new : File) → files_in files name ≡ None → string_bytes new.0 ≡ name → Replaces (Some (files_in files)) (Some (files_in (files ++ new ∷ []))) name new.1.items
+pub push_file : (files : List File) (name : List ℕ) (new : File)
+    → files_in files name ≡ None
+    → string_bytes new.0 ≡ name
+    → Replaces (Some (files_in files)) (Some (files_in (files ++ new ∷ []))) name new.1.items
 push_file files name new missing same =
     let none : find (is_named name) files ≡ None = none_in (find (is_named name) files) missing in
     let here : is_named name new ≡ true = (bytes_eq-Decides (string_bytes new.0) name).1 same in (

@@ -13,7 +13,8 @@ bytes_of sink = sink.bytes.items
 abbrev pub faults_of : MemSink → ℕ
 faults_of sink = sink.faults
 
--- how many bytes of a piece it takes: at most so many a call, and in all no more than it has room for
+-- how many bytes of a piece it takes: at most so many a call, and in all no more than it has room
+-- for
 abbrev pub taken_of : MemSink → List ℕ → ℕ
 taken_of sink bytes = min (min (length bytes) sink.most) (sink.room - length sink.bytes.items)
 
@@ -24,7 +25,8 @@ refuses sink bytes = taken_of sink bytes == 0 || is_listed sink.fail.items (next
 -- the answer to a piece: an empty piece takes nothing and can't fail
 abbrev pub answer_of : MemSink → List ℕ → Result ℕ PortError
 answer_of sink [] = Ok 0
-answer_of sink (byte ∷ bytes) = if refuses sink (byte ∷ bytes) then Err Failed else Ok (taken_of sink (byte ∷ bytes))
+answer_of sink (byte ∷ bytes) =
+    if refuses sink (byte ∷ bytes) then Err Failed else Ok (taken_of sink (byte ∷ bytes))
 
 -- a new sink: nothing is written yet
 pub record IsNew (sink : MemSink) (piece space : ℕ) (numbers : List ℕ) : Type 0 where

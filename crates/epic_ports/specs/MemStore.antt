@@ -1,16 +1,20 @@
 -- What a store in memory holds and answers.
-use Rattle.std.specs.Prelude.{◌≡◌, ℕ, Bool, true, false, List, Result, Ok, Err, ⊤}
+use Rattle.std.specs.Prelude.{◌≡◌, ℕ, Bool, true, false, List, Option, Result, Ok, Err, ⊤}
 use Rattle.epic_ports.specs.declared.error.PortError.{PortError}
 use Rattle.epic_ports.specs.declared.error.PortError.TheVariants.{Failed, OutOfMemory}
 use Rattle.epic_ports.specs.declared.mem_store.MemStore.{MemStore}
 use Rattle.epic_ports.specs.FaultCounts as fault_counts
 use Rattle.epic_ports.specs.Faults.{CountsFault, is_listed, next_count}
 use Rattle.epic_ports.specs.Files.{Files}
-use Rattle.epic_ports.specs.MemFiles.{File, files_in}
+use Rattle.epic_ports.specs.MemFiles.{File, files_in, told_in}
 
 -- the bytes of each name that is there
 abbrev pub contents_of : MemStore → Files
 contents_of store = files_in store.files.items
+
+-- what it tells
+abbrev pub told_of : MemStore → Option Files
+told_of store = told_in store.files.items
 
 -- how many reads of a name failed
 abbrev pub reads_of : MemStore → List ℕ → ℕ
@@ -45,7 +49,8 @@ calls_after calls (Err Failed) = next_count calls
 calls_after calls (Err OutOfMemory) = calls
 
 -- a fault of this name is counted where the call failed, and nothing else
-abbrev pub CountsWhere : {X : Type 0} → List ℕ → (List ℕ → ℕ) → (List ℕ → ℕ) → Result X PortError → Type 0
+abbrev pub CountsWhere : {X : Type 0}
+    → List ℕ → (List ℕ → ℕ) → (List ℕ → ℕ) → Result X PortError → Type 0
 CountsWhere name old new (Ok x) = new ≡ old
 CountsWhere name old new (Err Failed) = CountsFault name old new
 CountsWhere name old new (Err OutOfMemory) = new ≡ old

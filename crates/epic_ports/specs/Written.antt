@@ -8,4 +8,5 @@ TakesSome result bytes = IfOk result (λ n. (n ≤ length bytes) × (0 < length 
 
 -- a front of the bytes was added at the end
 abbrev pub AppendsFront : Option (List ℕ) → Option (List ℕ) → List ℕ → Type 0
-AppendsFront old new bytes = (front : List ℕ) × (back : List ℕ) × (bytes ≡ front ++ back) × Appends old new front
+AppendsFront old new bytes =
+    (front : List ℕ) × (back : List ℕ) × (bytes ≡ front ++ back) × Appends old new front

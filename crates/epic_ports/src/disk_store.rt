@@ -8,8 +8,8 @@ use std::io::{Read, Seek, SeekFrom, Write};
 use std::rt::Files;
 use std::{fs, io};
 
-/// The files of the system that the runtime `R` reaches. It tells nothing of their contents, and counts each fault at
-/// the file's name.
+/// The files of the system that the runtime `R` reaches. It tells nothing of their contents, and
+/// counts each fault at the file's name.
 #[derive(Drop)]
 pub struct DiskStore<'a, R> {
     rt: &'a R,

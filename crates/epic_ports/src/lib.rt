@@ -1,6 +1,8 @@
-//! The ports of the program: a store of named byte lists and a sink of bytes, with their counts of faults.
+//! The ports of the program: a store of named byte lists and a sink of bytes, with their counts of
+//! faults.
 //!
-//! A call of a port answers that it failed only where the count of faults of the object rose in that call.
+//! A call of a port answers that it failed only where the count of faults of the object rose in
+//! that call.
 #![tactic(auto)]
 
 mod counts;
@@ -22,3 +24,6 @@ pub use sink::Sink;
 pub use std_sink::StdSink;
 pub use store::Store;
 pub use whole::{read_whole, write_all};
+
+#[cfg(test)]
+mod tests;

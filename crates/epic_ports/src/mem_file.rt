@@ -1,7 +1,8 @@
 //! Files in memory: a name and its bytes, of which the first of a name counts.
-ghost use Rattle.std.specs.Prelude.{◌≡◌, ◌≤◌, ◌++◌, [], length, IfSome, IfNone, OnOk, OnErr, Some, None, option_copied, position};
+ghost use Rattle.std.specs.Prelude.{◌≡◌, ◌≤◌, ◌++◌, [], length, IfSome, IfNone, OnOk, OnErr};
+ghost use Rattle.std.specs.Prelude.{None, option_copied, position};
 ghost use Rattle.epic_ports.specs.Files.{GivesPiece, ReadsPiece, Replaces, bytes_at};
-ghost use Rattle.epic_ports.specs.MemFiles.{files_in, is_named, names_differ};
+ghost use Rattle.epic_ports.specs.MemFiles.{files_in, is_named, names_differ, told_in};
 
 use std::alloc::AllocError;
 
@@ -56,7 +57,7 @@ fn copy_from(bytes: &[u8], at: u64, buf: &mut [u8]) -> usize
 /// Reads a piece of a file from byte `at` on, if it is there.
 pub(crate) fn read_piece(files: &[MemFile], name: &str, at: u64, buf: &mut [u8]) -> Option<usize>
     ensures bound { IfSome result (λ n. n ≤ length buf.new) }
-    ensures bytes { IfSome result (λ n. ReadsPiece (Some (files_in files.now)) name.now at n buf.new) }
+    ensures bytes { IfSome result (λ n. ReadsPiece (told_in files.now) name.now at n buf.new) }
     ensures missing { IfNone result (files_in files.now name.now ≡ None) }
 {
     match file(files, name) {
@@ -67,7 +68,8 @@ pub(crate) fn read_piece(files: &[MemFile], name: &str, at: u64, buf: &mut [u8])
 
 /// Makes a file empty, whether it is there or not.
 pub(crate) fn empty_file(files: &mut Vec<MemFile>, name: &str) -> Result<(), AllocError>
-    ensures ok { OnOk result (Replaces (Some (files_in files.old.items)) (Some (files_in files.new.items)) name.now []) }
+    ensures ok { OnOk result (Replaces (told_in files.old.items) (told_in files.new.items) name.now
+        []) }
     ensures err { OnErr result (files_in files.new.items ≡ files_in files.old.items) }
 {
     match place_of(files, name) {
@@ -85,7 +87,8 @@ pub(crate) fn grow_file(
     name: &str,
     bytes: &[u8],
 ) -> Result<(), AllocError>
-    ensures ok { OnOk result (Replaces (Some (files_in files.old.items)) (Some (files_in files.new.items)) name.now (bytes_at (Some (files_in files.old.items)) name.now ++ bytes.now)) }
+    ensures ok { OnOk result (Replaces (told_in files.old.items) (told_in files.new.items) name.now
+        (bytes_at (told_in files.old.items) name.now ++ bytes.now)) }
     ensures err { OnErr result (files_in files.new.items ≡ files_in files.old.items) }
 {
     match place_of(files, name) {
@@ -100,7 +103,8 @@ pub(crate) fn grow_file(
 /// Adds a file of a name that isn't there.
 fn add_file(files: &mut Vec<MemFile>, name: &str, bytes: &[u8]) -> Result<(), AllocError>
     requires { files_in files.old.items name.now ≡ None }
-    ensures ok { OnOk result (Replaces (Some (files_in files.old.items)) (Some (files_in files.new.items)) name.now bytes.now) }
+    ensures ok { OnOk result (Replaces (told_in files.old.items) (told_in files.new.items) name.now
+        bytes.now) }
     ensures err { OnErr result (files_in files.new.items ≡ files_in files.old.items) }
 {
     let alloc = *files.allocator();

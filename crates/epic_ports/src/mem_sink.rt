@@ -5,8 +5,8 @@ use crate::error::PortError;
 use crate::sink::Sink;
 use std::alloc::Global;
 
-/// A sink in memory that tells what was written, for tests: it takes pieces as small as is wished, and fails when it is
-/// told to.
+/// A sink in memory that tells what was written, for tests: it takes pieces as small as is wished,
+/// and fails when it is told to.
 #[derive(Debug, Drop)]
 pub struct MemSink {
     bytes: Vec<u8>,
@@ -24,8 +24,9 @@ impl MemSink {
     ghost use Rattle.std.specs.Prelude.{IfOk, IsOkUnless};
     ghost use Rattle.epic_ports.specs.MemSink.{IsNew, bytes_of};
 
-    /// An empty sink. It takes at most `most` bytes a call, at least 1, and at most `room` bytes in all, for which it
-    /// takes the memory here. The writes whose numbers, from 1, stand in `fail` fail.
+    /// An empty sink. It takes at most `most` bytes a call, at least 1, and at most `room` bytes in
+    /// all, for which it takes the memory here. The writes whose numbers, from 1, stand in `fail`
+    /// fail.
     pub fn new(
         alloc: Global,
         most: usize,
@@ -68,7 +69,8 @@ impl Sink for MemSink {
     fn write(&mut self, bytes: &[u8]) -> Result<usize, PortError>
         ensures bound { TakesSome result bytes.now }
         ensures nothing { bytes.now ≡ [] → result ≡ Ok 0 }
-        ensures bytes { WriteAppends (Some (bytes_of self.old)) (Some (bytes_of self.new)) result bytes.now }
+        ensures bytes { WriteAppends
+            (Some (bytes_of self.old)) (Some (bytes_of self.new)) result bytes.now }
         ensures later { faults_of self.old ≤ faults_of self.new }
         ensures cause { FailsOnlyBy (faults_of self.old) (faults_of self.new) result }
         ensures answer { result ≡ answer_of self.old bytes.now }

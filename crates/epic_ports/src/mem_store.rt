@@ -29,7 +29,8 @@ impl MemStore {
         all_differ(files)
     }
 
-    /// A store of these files, each a name and its bytes. The calls whose numbers, from 1, stand in `fail` fail.
+    /// A store of these files, each a name and its bytes. The calls whose numbers, from 1, stand in
+    /// `fail` fail.
     pub fn new(files: Vec<(String, Vec<u8>)>, fail: Vec<u64>) -> MemStore
         requires { IsTrue (names_differ files.items) }
         ensures { HoldsNew result files.items fail.items }
@@ -59,15 +60,18 @@ impl MemStore {
 }
 
 impl Store for MemStore {
-    ghost use Rattle.std.specs.Prelude.{◌≡◌, ◌||◌, ◌<◌, [], Ok, Some, IfOk, OnOk, OnErr, is_none, length, take};
+    ghost use Rattle.std.specs.Prelude.{◌≡◌, ◌||◌, ◌<◌, [], Ok, IfOk, OnOk, OnErr, is_none, length};
+    ghost use Rattle.std.specs.Prelude.{take};
     ghost use Rattle.std.specs.Io.{ReadsAtMost};
     ghost use Rattle.epic_ports.specs.Faults.{CountsOnly, FailsBy};
     ghost use Rattle.epic_ports.specs.Files.{KeepsFiles, Replaces, Grows, ReadsPiece};
-    ghost use Rattle.epic_ports.specs.MemStore.{CountsCall, CountsWhere, FailsWhere, contents_of, is_next_listed, reads_of, writes_of};
+    ghost use Rattle.epic_ports.specs.MemStore.{CountsCall, CountsWhere, FailsWhere};
+    ghost use Rattle.epic_ports.specs.MemStore.{contents_of, is_next_listed, reads_of, told_of};
+    ghost use Rattle.epic_ports.specs.MemStore.{writes_of};
     ghost use Rattle.epic_ports.specs.Written.{TakesSome};
     ghost use Rattle.epic_ports.specs.MemFiles.{finite_files};
 
-    ghost contents = { λ store. Some (contents_of store) };
+    ghost contents = { told_of };
 
     ghost reads = { reads_of };
 
@@ -75,12 +79,13 @@ impl Store for MemStore {
 
     fn read_at(&mut self, name: &str, at: u64, buf: &mut [u8]) -> Result<usize, PortError>
         ensures bound { ReadsAtMost result buf.new }
-        ensures bytes { IfOk result (λ n. ReadsPiece (Some (contents_of self.old)) name.now at n buf.new) }
-        ensures contents { KeepsFiles (Some (contents_of self.old)) (Some (contents_of self.new)) }
+        ensures bytes { IfOk result (λ n. ReadsPiece (told_of self.old) name.now at n buf.new) }
+        ensures contents { KeepsFiles (told_of self.old) (told_of self.new) }
         ensures reads { CountsOnly name.now (reads_of self.old) (reads_of self.new) }
         ensures writes { writes_of self.new ≡ writes_of self.old }
         ensures cause { FailsBy (reads_of self.old name.now) (reads_of self.new name.now) result }
-        ensures failed { FailsWhere (is_next_listed self.old || is_none (contents_of self.old name.now)) result }
+        ensures failed { FailsWhere
+            (is_next_listed self.old || is_none (contents_of self.old name.now)) result }
         ensures counted { CountsWhere name.now (reads_of self.old) (reads_of self.new) result }
         ensures calls { CountsCall self.old self.new result }
     {
@@ -101,8 +106,8 @@ impl Store for MemStore {
     }
 
     fn create(&mut self, name: &str) -> Result<(), PortError>
-        ensures empty { OnOk result (Replaces (Some (contents_of self.old)) (Some (contents_of self.new)) name.now []) }
-        ensures err { OnErr result (KeepsFiles (Some (contents_of self.old)) (Some (contents_of self.new))) }
+        ensures empty { OnOk result (Replaces (told_of self.old) (told_of self.new) name.now []) }
+        ensures err { OnErr result (KeepsFiles (told_of self.old) (told_of self.new)) }
         ensures reads { reads_of self.new ≡ reads_of self.old }
         ensures writes { CountsOnly name.now (writes_of self.old) (writes_of self.new) }
         ensures cause { FailsBy (writes_of self.old name.now) (writes_of self.new name.now) result }
@@ -125,8 +130,9 @@ impl Store for MemStore {
     fn append(&mut self, name: &str, bytes: &[u8]) -> Result<usize, PortError>
         ensures bound { TakesSome result bytes.now }
         ensures nothing { bytes.now ≡ [] → result ≡ Ok 0 }
-        ensures bytes { IfOk result (λ n. Grows (Some (contents_of self.old)) (Some (contents_of self.new)) name.now (take n bytes.now)) }
-        ensures err { OnErr result (KeepsFiles (Some (contents_of self.old)) (Some (contents_of self.new))) }
+        ensures bytes { IfOk result (λ n.
+            Grows (told_of self.old) (told_of self.new) name.now (take n bytes.now)) }
+        ensures err { OnErr result (KeepsFiles (told_of self.old) (told_of self.new)) }
         ensures reads { reads_of self.new ≡ reads_of self.old }
         ensures writes { CountsOnly name.now (writes_of self.old) (writes_of self.new) }
         ensures cause { FailsBy (writes_of self.old name.now) (writes_of self.new name.now) result }

@@ -3,7 +3,8 @@ use crate::error::PortError;
 use crate::sink::Sink;
 use std::io::Write;
 
-/// A writer of std, as standard output. It tells nothing of what was written, and counts each fault.
+/// A writer of std, as standard output. It tells nothing of what was written, and counts each
+/// fault.
 #[derive(Drop)]
 pub struct StdSink<W> {
     writer: W,
@@ -39,7 +40,8 @@ impl<W: Write> Sink for StdSink<W> {
         ensures bytes { WriteAppends None None result bytes.now }
         ensures later { faults_of self.old ≤ faults_of self.new }
         ensures cause { FailsOnlyBy (faults_of self.old) (faults_of self.new) result }
-        ensures passed { WriteAppends (W.contents (writer_of self.old)) (W.contents (writer_of self.new)) result bytes.now }
+        ensures passed { WriteAppends
+            (W.contents (writer_of self.old)) (W.contents (writer_of self.new)) result bytes.now }
     {
         if bytes.is_empty() {
             return Ok(0);

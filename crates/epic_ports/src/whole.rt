@@ -13,8 +13,9 @@ const BLOCK: u64 = 4096;
 
 /// Reads the whole file `name`, of at most `limit` bytes (at most 2^32).
 ///
-/// The store is asked until it gives no byte or more than `limit` bytes came, so at most `limit` + 1 bytes are taken. A
-/// longer file is `ReadError::TooLong`. `ReadError::Failed` comes only where the store counted a failed read of `name`.
+/// The store is asked until it gives no byte or more than `limit` bytes came, so at most `limit` +
+/// 1 bytes are taken. A longer file is `ReadError::TooLong`. `ReadError::Failed` comes only where
+/// the store counted a failed read of `name`.
 pub fn read_whole<S: Store>(
     alloc: Global,
     store: &mut S,
@@ -51,8 +52,8 @@ pub fn read_whole<S: Store>(
 
 /// Writes all of `bytes`, in as many calls as the sink needs, and none where there are no bytes.
 ///
-/// After an error a front of `bytes` was written. `PortError::Failed` is the only error, and comes only where the sink
-/// counted a failed write.
+/// After an error a front of `bytes` was written. `PortError::Failed` is the only error, and comes
+/// only where the sink counted a failed write.
 pub fn write_all<O: Sink>(sink: &mut O, bytes: &[u8]) -> Result<(), PortError>
     ensures ok { OnOk result (Appends (O.written sink.old) (O.written sink.new) bytes.now) }
     ensures err { OnErr result (AppendsFront (O.written sink.old) (O.written sink.new) bytes.now) }

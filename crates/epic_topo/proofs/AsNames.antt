@@ -1,10 +1,10 @@
--- The text of an AS has at most 20 bytes, and its number 64 bits.
+-- The text of an AS has at most 20 bytes.
 use Rattle.std.proofs.Common.{◌≡◌, ℕ, zero, suc, ◌+◌, ◌*◌, ◌/◌, ◌%◌, ◌^◌, ◌<◌, ◌≤◌, ◌==◌, false, List, [], ◌∷◌, ◌++◌, length, length-append, nat_lt, Option, None, Some, decimal, refl, ap, arith}
 use Rattle.std.specs.Fmt.{digit_glyph, digits, digits_onto}
 use Rattle.std.proofs.lemmas.Bool.{cond_both, eqb-false, ltb-true}
 use Rattle.std.proofs.lemmas.Fmt.{length-decimal-le}
 use Rattle.std.proofs.Math.Nat.{div-lt_iff_lt-mul, pow-suc}
-use Rattle.epic_num.specs.Names.{as_of, as_part, as_part_text, as_text, colon, dash, groups_text, hexadecimal, isd_part}
+use Rattle.epic_num.specs.Names.{IsReadable, as_of, as_part, as_part_text, as_text, colon, dash, groups_text, hexadecimal, isd_part}
 use Rattle.epic_num.proofs.OneSpelling.{as_spelling}
 
 -- ---- how long digits are
@@ -53,9 +53,8 @@ name_short a h =
 
 -- ---- what is read
 
--- a number that is read has 64 bits
-pub number_small : (text : List ℕ) (a : ℕ) → as_of text ≡ Some a → a < 2 ^ 64
-number_small text a e = ((as_spelling text a).0 e).0.0
+pub readable : (text : List ℕ) (a : ℕ) → as_of text ≡ Some a → IsReadable a
+readable text a e = ((as_spelling text a).0 e).0
 
 -- a text of more than 20 bytes names no AS
 pub no_long_name : (text : List ℕ) → 20 < length text → as_of text ≡ None

@@ -1,18 +1,24 @@
 -- What is read is in its ranges, and a link that is read fits into the topology.
-use Rattle.std.proofs.Common.{◌≡◌, ℕ, ◌+◌, ◌≤◌, Option, None, Some, Result, Ok, IfOk, ap, sym, ◌∙◌, length, arith}
-use Rattle.std.proofs.lemmas.Bool.{cond_both, eqb-false}
+use Rattle.std.proofs.Common.{◌≡◌, ℕ, ◌+◌, ◌≤◌, not, List, Option, None, Some, Result, Ok, Err, IfOk, refl, ap, sym, ◌∙◌, length, arith}
+use Rattle.std.proofs.lemmas.Bool.{cond_both, eqb-false, not-true}
 use Rattle.std.proofs.Math.Nat.{mul-mod_left}
+use Rattle.std.specs.Result.{result_ok}
+use Rattle.hex.specs.Hex.{IsBytes, decode_sized}
+use Rattle.hex.proofs.HexLemmas.{decode_of-ok, decode_sized-ok, decode_sized-twice}
+use Rattle.epic_num.specs.Names.{IsReadable, as_of}
 use Rattle.toml.specs.Data.{Data, Members, no_members, as_integer, as_table}
 use Rattle.epic_num.specs.declared.name.AsId.{AsId}
-use Rattle.epic_topo.specs.Lawful.{IsEnd, IsNewLink, IsProfile}
+use Rattle.epic_topo.specs.Lawful.{IsEnd, IsNewLink, IsNewSystem, IsProfile}
 use Rattle.epic_topo.specs.Network.{Network, same_as, has, is_taken, keeps_core_rule}
-use Rattle.epic_topo.specs.Reading.{only_if, or_fails, value_at, setting_of, setting_at, settings, profile_of, asn_at, iface_at, kind_at, end_at, fitting, next_link}
+use Rattle.epic_topo.specs.Reading.{fails, only_if, or_fails, value_at, setting_of, setting_at, settings, profile_of, asn_at, iface_at, kind_at, end_at, fitting, next_link, text_at, core_at, master_at, next_system}
 use Rattle.epic_topo.specs.declared.fault.TopoError.{TopoError}
 use Rattle.epic_topo.specs.declared.fault.TopoKey.{TopoKey}
 use Rattle.epic_topo.specs.declared.fault.TopoKey.TheVariants as key
-use Rattle.epic_topo.specs.declared.fault.TopoKind.TheVariants.{Missing, WrongKind, BadProfile, UnknownAs, BadInterface}
+use Rattle.epic_topo.specs.declared.fault.TopoKind.TheVariants.{Missing, WrongKind, BadProfile, BadAs, BadKey, DuplicateAs, UnknownAs, BadInterface}
 use Rattle.epic_topo.specs.declared.network.Link.{Link}
-use Rattle.epic_topo.proofs.Steps.{after, at_ok, if_passed, ranged}
+use Rattle.epic_topo.specs.declared.network.System.{System}
+use Rattle.epic_topo.proofs.AsNames.{readable}
+use Rattle.epic_topo.proofs.Steps.{there, after, at_ok, if_passed, ranged}
 
 -- ---- the settings
 
@@ -55,6 +61,46 @@ settings_fit t =
 pub profile_fits : (o : Option Data) → IfOk (profile_of o) IsProfile
 profile_fits None = settings_fit no_members
 profile_fits (Some d) = after (or_fails WrongKind key.Profile 0 (as_table d)) _ _ (λ t _. settings_fit t)
+
+-- ---- an AS
+
+asn_named : (k : TopoKey) (place : ℕ) (t : Members) → IfOk (asn_at k place t) (λ a. IsReadable a.0)
+unfolding asn_at
+asn_named k place t =
+    after (text_at k place t) _ _ (λ text _.
+    after (or_fails BadAs k place (as_of text)) _ _ (λ number read.
+    readable text number (there BadAs k place (as_of text) number read)))
+
+-- a key that was taken is 16 bytes
+key_of : (digits bytes : List ℕ) → decode_sized digits 16 ≡ Ok bytes → (length bytes ≡ 16) × IsBytes bytes
+key_of digits bytes e =
+    let long = decode_sized-ok digits 16 bytes e in
+    let whole = decode_of-ok digits bytes (sym (decode_sized-twice digits 16 long) ∙ e) in
+    (omega (arith, whole.2), whole.3)
+
+master_is : (place : ℕ) (t : Members) → IfOk (master_at place t) (λ bytes. (length bytes ≡ 16) × IsBytes bytes)
+unfolding master_at
+master_is place t =
+    after (text_at key.Key place t) _ _ (λ digits _.
+    elim (decode_sized digits 16) as (λ r. decode_sized digits 16 ≡ r → IfOk (or_fails BadKey key.Key place (result_ok r)) (λ bytes. (length bytes ≡ 16) × IsBytes bytes)) [
+      | Ok bytes ↦ λ e. key_of digits bytes e
+      | Err f ↦ λ e. tt
+    ] refl)
+
+pub next_system_fits : (n : Network) (d : Data) → IfOk (next_system n d) (IsNewSystem n)
+unfolding next_system
+next_system_fits n d =
+    let place = length n.systems + 1 in
+    after (or_fails WrongKind key.As place (as_table d)) _ _ (λ t _.
+    after (asn_at key.Name place t) _ _ (λ asn read_asn.
+    after (core_at place t) _ _ (λ core _.
+    after (master_at place t) _ _ (λ master read_master.
+    let named = at_ok (λ a. IsReadable a.0) (asn_at key.Name place t) asn read_asn (asn_named key.Name place t) in
+    let bytes = at_ok (λ bytes. (length bytes ≡ 16) × IsBytes bytes) (master_at place t) master read_master (master_is place t) in
+    let s : System = record { asn = asn; is_core = core; master = master } in
+    cond_both (not (has n asn)) (Ok s) (fails DuplicateAs key.Name place) (λ r. IfOk r (IsNewSystem n))
+    (λ e. record { lawful = record { named = named; key = bytes.0; bytes = bytes.1 }; new = not-true (has n asn) e })
+    (λ _. tt)))))
 
 -- ---- a link
 

@@ -6,7 +6,7 @@ use Rattle.std.proofs.lemmas.List.{length_push}
 use Rattle.std.proofs.lemmas.List.Elements.{All-append}
 use Rattle.std.proofs.lemmas.List.Quantifiers.{all_pairs_push}
 use Rattle.epic_num.specs.declared.name.AsId.{AsId}
-use Rattle.epic_topo.specs.Lawful.{IsEnd, IsLink, IsSystem, IsNewLink, IsTopology, HasOtherEnds}
+use Rattle.epic_topo.specs.Lawful.{IsEnd, IsLink, IsSystem, IsNewLink, IsNewSystem, IsTopology, HasOtherEnds}
 use Rattle.epic_topo.specs.Network.{Network, same_as, system_of, link_at, has, is_core, neighbour, keeps_core_rule, is_taken, is_end, ends_at, other_end, with_system, with_link}
 use Rattle.epic_topo.specs.declared.network.End.{End}
 use Rattle.epic_topo.specs.declared.network.Link.{Link}
@@ -45,16 +45,16 @@ pub absent : (n : Network) (asn : AsId) → has n asn ≡ false → system_of n 
 unfolding has
 absent n asn h = none_from (system_of n asn) h
 
-pub grown_system : (n : Network) (s : System) → IsTopology n → n.links ≡ [] → has n s.asn ≡ false
-    → length n.systems < 4096 → IsSystem s → IsTopology (with_system n s)
-grown_system n s t none new few is =
+pub grown_system : (n : Network) (s : System) → IsTopology n → n.links ≡ []
+    → length n.systems < 4096 → IsNewSystem n s → IsTopology (with_system n s)
+grown_system n s t none few is =
     record {
       settings = t.settings;
       few_systems = omega (arith, length_push n.systems s);
       few_links = t.few_links;
-      each_system = All-append IsSystem n.systems (s ∷ []) t.each_system (one_of IsSystem s is);
+      each_system = All-append IsSystem n.systems (s ∷ []) t.each_system (one_of IsSystem s is.lawful);
       other_systems = all_pairs_push (λ (x y : System). x.asn ≢ y.asn) n.systems s t.other_systems
-          (λ k d lt e. false≢true (sym (missing (λ x. same_as x.asn s.asn) n.systems (absent n s.asn new) k d lt) ∙ as_same _ _ e));
+          (λ k d lt e. false≢true (sym (missing (λ x. same_as x.asn s.asn) n.systems (absent n s.asn is.new) k d lt) ∙ as_same _ _ e));
       each_link = subst (All (IsLink (with_system n s))) (sym none) (λ k d lt. absurd (omega arith));
       other_ends = t.other_ends;
     }

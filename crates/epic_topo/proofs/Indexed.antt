@@ -6,8 +6,8 @@ use Rattle.std.proofs.lemmas.Bool.{and_parts, or_cases, eqb-true}
 use Rattle.std.proofs.lemmas.Bool.Decides.{nat_tests}
 use Rattle.epic_num.specs.declared.name.AsId.{AsId}
 use Rattle.epic_topo.specs.Index.{IsIndexed, IsPlace, end_cmp}
-use Rattle.epic_topo.specs.Lawful.{IsNewLink, IsSystem}
-use Rattle.epic_topo.specs.Network.{Network, same_as, system_of, link_at, has, is_taken, is_end, ends_at, with_system, with_link}
+use Rattle.epic_topo.specs.Lawful.{IsNewLink, IsNewSystem}
+use Rattle.epic_topo.specs.Network.{Network, same_as, system_of, link_at, is_taken, is_end, ends_at, with_system, with_link}
 use Rattle.epic_topo.specs.declared.network.End.{End}
 use Rattle.epic_topo.specs.declared.network.Link.{Link}
 use Rattle.epic_topo.specs.declared.network.System.{System}
@@ -30,19 +30,19 @@ same_number : (a b : ℕ) → (a == b) ≡ is_eq (nat_cmp a b)
 same_number a b = grind (arith, nat_tests)
 
 pub indexed_system : (systems more : BTreeMap ℕ ℕ) (links : BTreeMap (ℕ × ℕ) ℕ) (n : Network) (s : System)
-    → IsIndexed systems links n → n.links ≡ [] → has n s.asn ≡ false → length n.systems < 4096 → IsSystem s
+    → IsIndexed systems links n → n.links ≡ [] → length n.systems < 4096 → IsNewSystem n s
     → ((q : ℕ) → get nat_cmp more q ≡ cond (is_eq (nat_cmp s.asn.0 q)) (Some (length n.systems)) (get nat_cmp systems q))
     → IsIndexed more links (with_system n s)
-indexed_system systems more links n s h none new few is put =
+indexed_system systems more links n s h none few is put =
     record {
       each_system = λ asn. subst (IsPlace (λ x. same_as x.asn asn) (n.systems ++ s ∷ [])) (sym (put asn.0))
           (place_pushed (λ x. same_as x.asn asn) n.systems s (get nat_cmp systems asn.0) (is_eq (nat_cmp s.asn.0 asn.0))
           (same_number s.asn.0 asn.0)
           (λ e. let same : s.asn ≡ asn = as_equal s.asn asn (same_number s.asn.0 asn.0 ∙ e) in
-          subst (λ a. system_of n a ≡ None) same (absent n s.asn new))
+          subst (λ a. system_of n a ≡ None) same (absent n s.asn is.new))
           (h.each_system asn));
       each_end = h.each_end;
-      lawful = grown_system n s h.lawful none new few is;
+      lawful = grown_system n s h.lawful none few is;
     }
 
 -- ---- one more link

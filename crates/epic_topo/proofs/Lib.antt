@@ -5,4 +5,6 @@ pub mod Fits
 pub mod Grown
 pub mod Indexed
 pub mod Items
+pub mod Linked
+pub mod ReadLawful
 pub mod Steps

@@ -1,7 +1,7 @@
 -- Steps of reading: what a step's value keeps, and what the answer of code says of it.
-use Rattle.std.proofs.Common.{◌≡◌, ℕ, ◌≤◌, ℤ, pos, negsuc, Bool, true, false, ◌&&◌, nat_le, Result, Ok, Err, IfOk, refl, ap, subst}
+use Rattle.std.proofs.Common.{◌≡◌, ℕ, ◌≤◌, ℤ, pos, negsuc, Bool, true, false, ◌&&◌, nat_le, Option, Some, None, Result, Ok, Err, IfOk, refl, ap, subst}
 use Rattle.std.proofs.lemmas.Bool.{and_parts, cond_both, leb-true}
-use Rattle.epic_topo.specs.Reading.{Gives, ◌>>=◌, fails, in_range, only_if}
+use Rattle.epic_topo.specs.Reading.{Gives, ◌>>=◌, fails, in_range, only_if, or_fails}
 use Rattle.epic_topo.specs.declared.fault.TopoError.{TopoError}
 use Rattle.epic_topo.specs.declared.fault.TopoError.TheVariants.{Bad, OutOfMemory}
 use Rattle.epic_topo.specs.declared.fault.TopoKey.{TopoKey}
@@ -17,6 +17,11 @@ after (Err e) f P h = tt
 pub at_ok : {A : Type 0} (P : A → Type 0) (r : Result A TopoError) (x : A) → r ≡ Ok x → IfOk r P → P x
 at_ok P (Ok y) x e h = let same : y ≡ x = cc in let Q = P in subst Q same h
 at_ok P (Err d) x e h = absurd (cc)
+
+-- a value that was taken is there
+pub there : {A : Type 0} (kind : TopoKind) (key : TopoKey) (place : ℕ) (o : Option A) (x : A) → or_fails kind key place o ≡ Ok x → o ≡ Some x
+there kind key place None x e = absurd (cc)
+there kind key place (Some y) x e = (cc)
 
 pub if_passed : {A : Type 0} (test : Bool) (kind : TopoKind) (key : TopoKey) (place : ℕ) (x y : A)
     → only_if test kind key place x ≡ Ok y → (test ≡ true) × (x ≡ y)

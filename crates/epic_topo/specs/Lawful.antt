@@ -1,8 +1,11 @@
 -- What every topology keeps that a text tells of.
-use Rattle.std.specs.Prelude.{◌≡◌, ◌≢◌, ℕ, ◌%◌, ◌^◌, ◌<◌, ◌≤◌, true, false, length, All, AllPairs}
+use Rattle.std.specs.Prelude.{◌≡◌, ◌≢◌, ℕ, ◌%◌, ◌<◌, ◌≤◌, true, false, length, All, AllPairs, Some, IfSome}
+use Rattle.hex.specs.Hex.{IsBytes}
+use Rattle.epic_num.specs.Names.{IsReadable}
 use Rattle.epic_num.specs.declared.name.AsId.{AsId}
 use Rattle.epic_num.specs.declared.profile.Profile.{Profile}
-use Rattle.epic_topo.specs.Network.{Network, has, is_taken, keeps_core_rule, ends_at}
+use Rattle.epic_topo.specs.Network.{Network, has, as_at, neighbour, turned, is_taken, follows_core_rule, keeps_core_rule, ends_at}
+use Rattle.epic_topo.specs.declared.link_kind.LinkKind.{LinkKind}
 use Rattle.epic_topo.specs.declared.network.End.{End}
 use Rattle.epic_topo.specs.declared.network.Link.{Link}
 use Rattle.epic_topo.specs.declared.network.System.{System}
@@ -18,10 +21,16 @@ pub record IsProfile (p : Profile) : Type 0 where
   pub some_window : 1 ≤ p.window
   pub window : p.window ≤ 65536
 
--- an AS's number is of 64 bits, and its key of 16 bytes
+-- an AS has a text, and its key is 16 bytes
 pub record IsSystem (s : System) : Type 0 where
-  pub number : s.asn.0 < 2 ^ 64
+  pub named : IsReadable s.asn.0
   pub key : length s.master ≡ 16
+  pub bytes : IsBytes s.master
+
+-- a further AS fits into the topology
+pub record IsNewSystem (n : Network) (s : System) : Type 0 where
+  pub lawful : IsSystem s
+  pub new : has n s.asn ≡ false
 
 -- an end is at an interface of an AS of the topology
 pub record IsEnd (n : Network) (e : End) : Type 0 where
@@ -54,3 +63,26 @@ pub record IsTopology (n : Network) : Type 0 where
   pub other_systems : AllPairs (λ s t. s.asn ≢ t.asn) n.systems
   pub each_link : All (IsLink n) n.links
   pub other_ends : AllPairs HasOtherEnds n.links
+
+-- The link at an interface of an AS leads to the far end. It leads back from there, as what it is for
+-- the AS there; its two ASes are in the topology and differ, and it keeps the core rule.
+pub record IsLinked (n : Network) (asn : AsId) (iface : ℕ) (far : AsId × ℕ × LinkKind) : Type 0 where
+  pub back : neighbour n far.0 far.1 ≡ Some (asn, iface, turned far.2)
+  pub near_end : IsEnd n (record { asn = asn; iface = iface })
+  pub far_end : IsEnd n (record { asn = far.0; iface = far.1 })
+  pub joins_two : asn ≢ far.0
+  pub rule : follows_core_rule n asn far.0 far.2 ≡ true
+
+-- each link leads back
+abbrev pub LinksLeadBack : Network → Type 0
+LinksLeadBack n = (asn : AsId) (iface : ℕ) → IfSome (neighbour n asn iface) (IsLinked n asn iface)
+
+-- each AS of the topology can be read from a text
+abbrev pub HasReadableNames : Network → Type 0
+HasReadableNames n = (asn : AsId) → has n asn ≡ true → IsReadable asn.0
+
+-- each AS of the topology has one place among at most 4,096
+pub record HasOnePlaceEach (n : Network) : Type 0 where
+  pub place : (asn : AsId) → has n asn ≡ true → (i : ℕ) × (as_at n i ≡ Some asn)
+  pub known : (i : ℕ) (asn : AsId) → as_at n i ≡ Some asn → (i < 4096) × (has n asn ≡ true)
+  pub once : (i j : ℕ) (asn : AsId) → as_at n i ≡ Some asn → as_at n j ≡ Some asn → i ≡ j

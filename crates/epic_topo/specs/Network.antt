@@ -79,12 +79,13 @@ abbrev pub same_isd : AsId → AsId → Bool
 same_isd a b = isd_part a.0 == isd_part b.0
 
 -- Core links join core ASes. A child is no core AS, and is of its parent's isolation domain.
+abbrev pub follows_core_rule : Network → AsId → AsId → LinkKind → Bool
+follows_core_rule n a b Core = is_core n a && is_core n b
+follows_core_rule n a b Parent = not (is_core n b) && same_isd a b
+follows_core_rule n a b Child = not (is_core n a) && same_isd a b
+
 unfoldable pub keeps_core_rule : Network → Link → Bool
-keeps_core_rule n l = elim l.kind [
-  | Core ↦ is_core n l.a.asn && is_core n l.b.asn
-  | Parent ↦ not (is_core n l.b.asn) && same_isd l.a.asn l.b.asn
-  | Child ↦ not (is_core n l.a.asn) && same_isd l.a.asn l.b.asn
-]
+keeps_core_rule n l = follows_core_rule n l.a.asn l.b.asn l.kind
 
 -- ---- a topology that grows
 

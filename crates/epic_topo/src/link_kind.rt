@@ -14,7 +14,7 @@ impl LinkKind {
     ghost use Rattle.epic_topo.specs.Network.{turned};
 
     /// What the link is for the AS at its other end.
-    pub fn turned(self) -> LinkKind
+    pub(crate) fn turned(self) -> LinkKind
         ensures { result ≡ turned self }
     {
         match self {

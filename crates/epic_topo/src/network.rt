@@ -26,3 +26,19 @@ pub struct Link {
     pub a: End,
     pub b: End,
 }
+
+impl Link {
+    ghost use Rattle.std.specs.Prelude.{◌≡◌};
+    ghost use Rattle.epic_topo.specs.Network.{other_end};
+
+    // The other end of a link that ends at this interface of the AS, and what it is for this AS.
+    pub(crate) fn other_end(&self, asn: AsId, iface: u16) -> (AsId, u16, LinkKind)
+        ensures { result ≡ other_end asn iface self.now }
+    {
+        if self.a.asn.0 == asn.0 && self.a.iface == iface {
+            (self.b.asn, self.b.iface, self.kind)
+        } else {
+            (self.a.asn, self.a.iface, self.kind.turned())
+        }
+    }
+}

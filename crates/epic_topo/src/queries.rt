@@ -1,6 +1,6 @@
-ghost use Rattle.std.specs.Prelude.{◌≡◌, ◌<◌, ◌^◌, [], false, length, IfOk, IfErr};
+ghost use Rattle.std.specs.Prelude.{◌≡◌, ◌<◌, ◌^◌, [], false, length, is_some, IfOk, IfErr, IfSome};
 ghost use Rattle.std.specs.Option.{option_copied};
-ghost use Rattle.epic_topo.specs.Lawful.{IsNewLink, IsProfile, IsTopology};
+ghost use Rattle.epic_topo.specs.Lawful.{HasOnePlaceEach, IsLinked, IsNewLink, IsNewSystem, IsProfile, IsTopology};
 ghost use Rattle.epic_topo.specs.Network.{as_at, has, is_core, link_at, master, neighbour, system_of, with_link, with_system};
 
 use crate::{Link, LinkKind, System, TopoError};
@@ -64,9 +64,10 @@ impl Topology {
     }
 
     /// The master key of the AS, if it is in the topology.
-    #[tactic(auto, unfolding(crate::specs::Network::master))]
+    #[tactic(auto, unfolding(crate::specs::Network::has, crate::specs::Network::master))]
     pub fn master(&self, asn: AsId) -> Option<[u8; 16]>
-        ensures { result ≡ master self.now asn }
+        ensures value { result ≡ master self.now asn }
+        ensures there { is_some result ≡ has self.now asn }
     {
         match self.entry(asn) {
             Some(system) => Some(system.master),
@@ -77,20 +78,18 @@ impl Topology {
     /// The other end of the link at an interface of the AS, and what the link is for this AS.
     #[tactic(auto, unfolding(crate::specs::Network::neighbour))]
     pub fn neighbour(&self, asn: AsId, iface: u16) -> Option<(AsId, u16, LinkKind)>
-        ensures { result ≡ neighbour self.now asn iface }
+        ensures value { result ≡ neighbour self.now asn iface }
+        ensures linked { IfSome result (IsLinked self.now asn iface) }
     {
         let link = self.link_at(asn, iface)?;
-        if link.a.asn.0 == asn.0 && link.a.iface == iface {
-            Some((link.b.asn, link.b.iface, link.kind))
-        } else {
-            Some((link.a.asn, link.a.iface, link.kind.turned()))
-        }
+        Some(link.other_end(asn, iface))
     }
 
     /// The AS at a place among the topology's ASes, from 0, in the order of its file.
     #[tactic(auto, unfolding(crate::specs::Network::as_at))]
     pub fn as_at(&self, i: u32) -> Option<AsId>
-        ensures { result ≡ as_at self.now i }
+        ensures value { result ≡ as_at self.now i }
+        ensures once { HasOnePlaceEach self.now }
     {
         match self.systems.get(i as usize) {
             Some(system) => Some(system.asn),
@@ -110,7 +109,8 @@ impl Topology {
 
     // The link at an interface of the AS.
     fn link_at(&self, asn: AsId, iface: u16) -> Option<&Link>
-        ensures { option_copied result ≡ link_at self.now asn iface }
+        ensures value { option_copied result ≡ link_at self.now asn iface }
+        ensures lawful { IsTopology self.now }
     {
         match self.link_places.get(&(asn.0, iface)) {
             Some(place) => self.links.get(*place),
@@ -136,7 +136,7 @@ impl Topology {
 
     /// The topology with one more AS.
     pub(crate) fn with_system(self, system: System) -> Result<Topology, TopoError>
-        requires new { has self system.asn ≡ false }
+        requires new { IsNewSystem self system }
         requires few { length self.systems < 4096 }
         requires no_links { self.links ≡ [] }
         ensures ok { IfOk result (λ t. t ≡ with_system self system) }

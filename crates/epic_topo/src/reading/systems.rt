@@ -1,7 +1,7 @@
 //! The ASes of a topology's text.
 ghost use Rattle.std.specs.Prelude.{◌≡◌, ◌+◌, ◌<◌, ◌≤◌, [], false, length, option_map, IfOk};
 ghost use Rattle.toml.specs.View.{items_view, table_view, view};
-ghost use Rattle.epic_topo.specs.Network.{has};
+ghost use Rattle.epic_topo.specs.Lawful.{IsNewSystem};
 ghost use Rattle.epic_topo.specs.Reading.{asn_at, core_at, master_at, next_system, with_systems, with_systems_of, Gives};
 
 use crate::reading::values::{fault, rows, table_in, text_at, value_at};
@@ -62,7 +62,7 @@ fn master_at(table: &Table, place: u32) -> Result<[u8; 16], TopoError>
 fn next_system(topology: &Topology, value: &Value, place: u32) -> Result<System, TopoError>
     requires { length topology.now.systems + 1 ≡ place }
     ensures value { result ≡ next_system topology.now (view value.now) }
-    ensures new { IfOk result (λ s. has topology.now s.asn ≡ false) }
+    ensures fits { IfOk result (IsNewSystem topology.now) }
 {
     let table = table_in(value, TopoKey::As, place)?;
     let asn = asn_at(table, TopoKey::Name, place)?;

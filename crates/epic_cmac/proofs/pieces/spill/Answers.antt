@@ -1,6 +1,6 @@
 use Rattle.std.proofs.Common.{◌≡◌, ◌-◌, ◌/◌, length, take, refl, ap, sym, ◌∙◌, zero-add}
 use Rattle.std.specs.Simd.{first_chunks}
-use Rattle.epic_aes.specs.Chain.{chained}
+use Rattle.epic_aes.specs.Chain.{chain}
 use Rattle.epic_cmac.proofs.BlockLemmas.{first_chunks-front}
 use Rattle.epic_cmac.proofs.HeldLemmas.{held_spill}
 use Rattle.epic_cmac.proofs.pieces.spill.Goals as goal
@@ -18,6 +18,6 @@ returns c = λ message held.
     message c.args.piece.now c.split_at.result.0.now rest last c.args.used more
     held c.requires.over c.split_at.ensures.front c.split_at.ensures.back c.split_at.ensures.front_len c.split_at.ensures.back_len
     c.put.ensures c.put.array_long c.chain.ensures refl
-    (c.chain-2.ensures ∙ ap (chained key c.chain.new.x) cut)
+    (c.chain-2.ensures ∙ ap (chain key c.chain.new.x) cut)
     c.split_at-2.ensures.back
     (ap (λ n. take n c.put-2.new.buffer) (sym (zero-add (length last))) ∙ c.put-2.ensures)

@@ -12,11 +12,17 @@ returns-in-Ok-clause-writes g c = counts_same _ _ _ c.make_room.ensures.writes
 
 pub returns-in_default-clause-writes : goal.returns-in_default-clause-writes
 returns-in_default-clause-writes g c =
-    counts_fault c.args.name.now (fault_counts.writes_of c.args.self.now.counts) (fault_counts.writes_of c.make_room.new.self) (fault_counts.writes_of c.count_write.new.self) c.make_room.ensures.writes c.count_write.ensures.writes
+    let before = fault_counts.writes_of c.args.self.now.counts in
+    let room = fault_counts.writes_of c.make_room.new.self in
+    let after = fault_counts.writes_of c.count_write.new.self in
+    counts_fault c.args.name.now before room after c.make_room.ensures.writes c.count_write.ensures.writes
 
 pub returns-in_default-clause-cause : goal.returns-in_default-clause-cause
 returns-in_default-clause-cause g c =
-    rose_after c.args.name.now (fault_counts.writes_of c.args.self.now.counts) (fault_counts.writes_of c.make_room.new.self) (fault_counts.writes_of c.count_write.new.self) c.make_room.ensures.writes c.count_write.ensures.writes
+    let before = fault_counts.writes_of c.args.self.now.counts in
+    let room = fault_counts.writes_of c.make_room.new.self in
+    let after = fault_counts.writes_of c.count_write.new.self in
+    rose_after c.args.name.now before room after c.make_room.ensures.writes c.count_write.ensures.writes
 
 pub returns-in_err-make_room-clause-cause : goal.returns-in_err-make_room-clause-cause
 returns-in_err-make_room-clause-cause g c =

@@ -12,11 +12,17 @@ returns-in-Ok-clause-reads g c = counts_same _ _ _ c.make_room.ensures.reads
 
 pub returns-in-Err-clause-reads : goal.returns-in-Err-clause-reads
 returns-in-Err-clause-reads g c =
-    counts_fault c.args.name.now (fault_counts.reads_of c.args.self.now.counts) (fault_counts.reads_of c.make_room.new.self) (fault_counts.reads_of c.count_read.new.self) c.make_room.ensures.reads c.count_read.ensures.reads
+    let before = fault_counts.reads_of c.args.self.now.counts in
+    let room = fault_counts.reads_of c.make_room.new.self in
+    let after = fault_counts.reads_of c.count_read.new.self in
+    counts_fault c.args.name.now before room after c.make_room.ensures.reads c.count_read.ensures.reads
 
 pub returns-in-Err-clause-cause : goal.returns-in-Err-clause-cause
 returns-in-Err-clause-cause g c =
-    rose_after c.args.name.now (fault_counts.reads_of c.args.self.now.counts) (fault_counts.reads_of c.make_room.new.self) (fault_counts.reads_of c.count_read.new.self) c.make_room.ensures.reads c.count_read.ensures.reads
+    let before = fault_counts.reads_of c.args.self.now.counts in
+    let room = fault_counts.reads_of c.make_room.new.self in
+    let after = fault_counts.reads_of c.count_read.new.self in
+    rose_after c.args.name.now before room after c.make_room.ensures.reads c.count_read.ensures.reads
 
 pub returns-in_err-make_room-clause-cause : goal.returns-in_err-make_room-clause-cause
 returns-in_err-make_room-clause-cause g c =

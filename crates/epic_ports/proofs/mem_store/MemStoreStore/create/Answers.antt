@@ -15,10 +15,18 @@ pub returns-clause-writes : goal.returns-clause-writes
 returns-clause-writes c = counts_same _ _ _ c.make_room.ensures.writes
 
 pub returns-then-is_listed-clause-writes : goal.returns-then-is_listed-clause-writes
-returns-then-is_listed-clause-writes c = counts_fault c.args.name.now (writes_of c.args.self.now) (fault_counts.writes_of c.make_room.new.self) (fault_counts.writes_of c.count_write.new.self) c.make_room.ensures.writes c.count_write.ensures.writes
+returns-then-is_listed-clause-writes c =
+    let before = writes_of c.args.self.now in
+    let room = fault_counts.writes_of c.make_room.new.self in
+    let after = fault_counts.writes_of c.count_write.new.self in
+    counts_fault c.args.name.now before room after c.make_room.ensures.writes c.count_write.ensures.writes
 
 pub returns-then-is_listed-clause-cause : goal.returns-then-is_listed-clause-cause
-returns-then-is_listed-clause-cause c = rose_after c.args.name.now (writes_of c.args.self.now) (fault_counts.writes_of c.make_room.new.self) (fault_counts.writes_of c.count_write.new.self) c.make_room.ensures.writes c.count_write.ensures.writes
+returns-then-is_listed-clause-cause c =
+    let before = writes_of c.args.self.now in
+    let room = fault_counts.writes_of c.make_room.new.self in
+    let after = fault_counts.writes_of c.count_write.new.self in
+    rose_after c.args.name.now before room after c.make_room.ensures.writes c.count_write.ensures.writes
 
 pub returns-in_err-make_room-clause-cause : goal.returns-in_err-make_room-clause-cause
 returns-in_err-make_room-clause-cause c =

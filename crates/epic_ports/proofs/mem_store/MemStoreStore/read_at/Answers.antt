@@ -12,16 +12,32 @@ pub returns-in-Some-clause-reads : goal.returns-in-Some-clause-reads
 returns-in-Some-clause-reads c = counts_same _ _ _ c.make_room.ensures.reads
 
 pub returns-then-is_listed-clause-reads : goal.returns-then-is_listed-clause-reads
-returns-then-is_listed-clause-reads c = counts_fault c.args.name.now (reads_of c.args.self.now) (fault_counts.reads_of c.make_room.new.self) (fault_counts.reads_of c.count_read.new.self) c.make_room.ensures.reads c.count_read.ensures.reads
+returns-then-is_listed-clause-reads c =
+    let before = reads_of c.args.self.now in
+    let room = fault_counts.reads_of c.make_room.new.self in
+    let after = fault_counts.reads_of c.count_read.new.self in
+    counts_fault c.args.name.now before room after c.make_room.ensures.reads c.count_read.ensures.reads
 
 pub returns-then-is_listed-clause-cause : goal.returns-then-is_listed-clause-cause
-returns-then-is_listed-clause-cause c = rose_after c.args.name.now (reads_of c.args.self.now) (fault_counts.reads_of c.make_room.new.self) (fault_counts.reads_of c.count_read.new.self) c.make_room.ensures.reads c.count_read.ensures.reads
+returns-then-is_listed-clause-cause c =
+    let before = reads_of c.args.self.now in
+    let room = fault_counts.reads_of c.make_room.new.self in
+    let after = fault_counts.reads_of c.count_read.new.self in
+    rose_after c.args.name.now before room after c.make_room.ensures.reads c.count_read.ensures.reads
 
 pub returns-in-None-clause-reads : goal.returns-in-None-clause-reads
-returns-in-None-clause-reads c = counts_fault c.args.name.now (reads_of c.args.self.now) (fault_counts.reads_of c.make_room.new.self) (fault_counts.reads_of c.count_read-in-None.new.self) c.make_room.ensures.reads c.count_read-in-None.ensures.reads
+returns-in-None-clause-reads c =
+    let before = reads_of c.args.self.now in
+    let room = fault_counts.reads_of c.make_room.new.self in
+    let after = fault_counts.reads_of c.count_read-in-None.new.self in
+    counts_fault c.args.name.now before room after c.make_room.ensures.reads c.count_read-in-None.ensures.reads
 
 pub returns-in-None-clause-cause : goal.returns-in-None-clause-cause
-returns-in-None-clause-cause c = rose_after c.args.name.now (reads_of c.args.self.now) (fault_counts.reads_of c.make_room.new.self) (fault_counts.reads_of c.count_read-in-None.new.self) c.make_room.ensures.reads c.count_read-in-None.ensures.reads
+returns-in-None-clause-cause c =
+    let before = reads_of c.args.self.now in
+    let room = fault_counts.reads_of c.make_room.new.self in
+    let after = fault_counts.reads_of c.count_read-in-None.new.self in
+    rose_after c.args.name.now before room after c.make_room.ensures.reads c.count_read-in-None.ensures.reads
 
 pub returns-in_err-make_room-clause-cause : goal.returns-in_err-make_room-clause-cause
 returns-in_err-make_room-clause-cause c =

@@ -1,0 +1,151 @@
+//! How a command ends.
+
+ghost use Rattle.std.specs.Prelude.{◌≡◌, ◌≤◌, flat_map, OnOk, OnErr};
+ghost use Rattle.epic_ports.specs.Faults.{FailsOnlyBy};
+ghost use Rattle.epic_ports.specs.Written.{Appends, AppendsFront};
+ghost use Rattle.epic_app.specs.declared.script.ScriptKind.TheVariants.{BadWord};
+ghost use Rattle.epic_app.specs.End.{line_of, status_of};
+ghost use Rattle.epic_app.specs.Outcome.{Tells, error_sink};
+ghost use Rattle.epic_app.specs.Request.{fault_line, named_line};
+
+use crate::script::ScriptKind;
+use epic_ports::{PortError, Sink, write_all};
+use itoa::Buffer;
+
+/// How a command ended.
+#[derive(Clone, Copy, Debug)]
+pub enum End<'a> {
+    /// The run was done; some check was forged or none was.
+    Done { forged: bool },
+    /// The words are no command.
+    BadWords,
+    /// This line of the script, counted from 1, is refused.
+    BadScript { line: u32, kind: ScriptKind },
+    /// The script is too long.
+    LongScript,
+    /// A read of the file with this name failed.
+    ReadFault(&'a str),
+    /// A write failed.
+    WriteFault,
+    OutOfMemory,
+}
+
+impl End<'_> {
+    /// The status of the process.
+    pub fn status(&self) -> u8
+        ensures { result ≡ status_of self.now }
+    {
+        match self {
+            End::Done { forged } => u8::from(*forged),
+            End::BadWords => 2,
+            End::BadScript { .. } | End::LongScript => 4,
+            End::ReadFault(_) => 6,
+            End::WriteFault => 7,
+            End::OutOfMemory => 8,
+        }
+    }
+}
+
+/// Writes the pieces one after the other. After an error a front of them was written.
+fn write_pieces<E: Sink>(err: &mut E, pieces: &[&[u8]]) -> Result<(), PortError>
+    ensures ok { OnOk result (Appends (E.written err.old) (E.written err.new)
+        (flat_map (λ piece. piece.now) pieces.now)) }
+    ensures err { OnErr result (AppendsFront (E.written err.old) (E.written err.new)
+        (flat_map (λ piece. piece.now) pieces.now)) }
+    ensures later { E.faults err.old ≤ E.faults err.new }
+    ensures cause { FailsOnlyBy (E.faults err.old) (E.faults err.new) result }
+{
+    for piece in pieces {
+        write_all(err, piece)?;
+    }
+    Ok(())
+}
+
+/// Writes the line of a script's fault that has a name alone.
+fn write_named<E: Sink>(err: &mut E, line: u32, name: &[u8]) -> Result<(), PortError>
+    ensures ok { OnOk result (Appends (E.written err.old) (E.written err.new)
+        (named_line line name.now)) }
+    ensures err { OnErr result (AppendsFront (E.written err.old) (E.written err.new)
+        (named_line line name.now)) }
+    ensures cause { FailsOnlyBy (E.faults err.old) (E.faults err.new) result }
+{
+    let mut number = Buffer::new();
+    write_pieces(
+        err,
+        &[
+            b"epic: script ",
+            number.format(line).as_bytes(),
+            b" ",
+            name,
+            b"\n",
+        ],
+    )
+}
+
+/// Writes the line of a script's fault.
+fn write_fault<E: Sink>(err: &mut E, line: u32, kind: ScriptKind) -> Result<(), PortError>
+    ensures ok { OnOk result (Appends (E.written err.old) (E.written err.new)
+        (fault_line line kind)) }
+    ensures err { OnErr result (AppendsFront (E.written err.old) (E.written err.new)
+        (fault_line line kind)) }
+    ensures cause { FailsOnlyBy (E.faults err.old) (E.faults err.new) result }
+{
+    match kind {
+        ScriptKind::NotText => write_named(err, line, b"not-text"),
+        ScriptKind::UnknownVerb => write_named(err, line, b"unknown-verb"),
+        ScriptKind::WordCount => write_named(err, line, b"word-count"),
+        ScriptKind::BadWord { word } => write_bad_word(err, line, word),
+        ScriptKind::TooMany => write_named(err, line, b"too-many"),
+    }
+}
+
+/// Writes the line of the fault of a word.
+fn write_bad_word<E: Sink>(err: &mut E, line: u32, word: u32) -> Result<(), PortError>
+    ensures ok { OnOk result (Appends (E.written err.old) (E.written err.new)
+        (fault_line line (BadWord word))) }
+    ensures err { OnErr result (AppendsFront (E.written err.old) (E.written err.new)
+        (fault_line line (BadWord word))) }
+    ensures cause { FailsOnlyBy (E.faults err.old) (E.faults err.new) result }
+{
+    let mut line_digits = Buffer::new();
+    let mut word_digits = Buffer::new();
+    write_pieces(
+        err,
+        &[
+            b"epic: script ",
+            line_digits.format(line).as_bytes(),
+            b" bad-word ",
+            word_digits.format(word).as_bytes(),
+            b"\n",
+        ],
+    )
+}
+
+/// Writes the line of `end`, if it has one.
+fn write_end<E: Sink>(err: &mut E, end: &End<'_>) -> Result<(), PortError>
+    ensures ok { OnOk result (Appends (E.written err.old) (E.written err.new) (line_of end.now)) }
+    ensures err { OnErr result (AppendsFront (E.written err.old) (E.written err.new)
+        (line_of end.now)) }
+    ensures cause { FailsOnlyBy (E.faults err.old) (E.faults err.new) result }
+{
+    match end {
+        End::Done { .. } => Ok(()),
+        End::BadWords => write_all(err, b"epic: words\n"),
+        End::BadScript { line, kind } => write_fault(err, *line, *kind),
+        End::LongScript => write_all(err, b"epic: script too-long\n"),
+        End::ReadFault(name) => write_pieces(err, &[b"epic: read ", name.as_bytes(), b"\n"]),
+        End::WriteFault => write_all(err, b"epic: write\n"),
+        End::OutOfMemory => write_all(err, b"epic: memory\n"),
+    }
+}
+
+/// Tells `end` to the errors. No memory is taken, and a failure of the errors changes nothing
+/// else.
+pub fn tell<E: Sink>(err: &mut E, end: &End<'_>)
+    ensures { Tells
+        (error_sink (E.written err.old) (E.faults err.old))
+        (error_sink (E.written err.new) (E.faults err.new))
+        (line_of end.now) }
+{
+    let _ = write_end(err, end);
+}

@@ -1,0 +1,70 @@
+//! The top call.
+
+ghost use Rattle.std.specs.Prelude.{map};
+ghost use Rattle.std.specs.String.{string_bytes};
+ghost use Rattle.epic_app.specs.End.{Performs};
+ghost use Rattle.epic_app.specs.Outcome.{Ends, ReportHolds, error_sink, world};
+ghost use Rattle.epic_app.specs.Request.{request_of};
+
+use crate::end::{End, tell};
+use crate::hop::hop;
+use crate::words::hop_words;
+use epic_ports::{Sink, Store};
+use std::alloc::Global;
+
+/// Does what the words ask for, but for what is told to the errors.
+fn perform<'a, S: Store, O: Sink>(
+    alloc: Global,
+    words: &'a [String],
+    store: &mut S,
+    out: &mut O,
+) -> End<'a>
+    ensures { Performs (request_of (map string_bytes words.entry.now))
+        (world (S.contents store.old) (S.reads store.old) (S.writes store.old)
+        (O.written out.old) (O.faults out.old))
+        (world (S.contents store.new) (S.reads store.new) (S.writes store.new)
+        (O.written out.new) (O.faults out.new))
+        result }
+{
+    match hop_words(words) {
+        Some(words) => hop(alloc, &words.key, words.file, store, out),
+        None => End::BadWords,
+    }
+}
+
+/// Does what the words after the program's name ask for, over a store of files, an output and a sink
+/// for errors, and answers the status of the process.
+///
+/// 0: the run was done, and no check was forged; 1: some check was. 2: the words are no command.
+/// 4: the file is refused. 6: a read failed. 7: a write failed. 8: memory was wanting. The errors get
+/// the line of the status.
+pub fn epic<S: Store, O: Sink, E: Sink>(
+    alloc: Global,
+    words: &[String],
+    store: &mut S,
+    out: &mut O,
+    err: &mut E,
+) -> u8
+    // Each `accept proved K` names an earlier issue of that body, each `accept forged` is a right
+    // field of a body that no earlier line issued, and each refused field is wrong.
+    ensures report_holds { ReportHolds (map string_bytes words.now)
+        (world (S.contents store.old) (S.reads store.old) (S.writes store.old)
+        (O.written out.old) (O.faults out.old))
+        (world (S.contents store.new) (S.reads store.new) (S.writes store.new)
+        (O.written out.new) (O.faults out.new))
+        result }
+
+    // The exact report, the cause of each status, the line on the errors, and what stays.
+    ensures ends { Ends (map string_bytes words.now)
+        (world (S.contents store.old) (S.reads store.old) (S.writes store.old)
+        (O.written out.old) (O.faults out.old))
+        (world (S.contents store.new) (S.reads store.new) (S.writes store.new)
+        (O.written out.new) (O.faults out.new))
+        (error_sink (E.written err.old) (E.faults err.old))
+        (error_sink (E.written err.new) (E.faults err.new))
+        result }
+{
+    let end = perform(alloc, words, store, out);
+    tell(err, &end);
+    end.status()
+}

@@ -1,0 +1,5 @@
+pub mod Chained
+pub mod Hops
+pub mod Issuing
+pub mod Kinds
+pub mod Store

@@ -1,0 +1,17 @@
+//! The hops that ASes issue, the chains that they make, and the segments of those that are ended.
+#![tactic(auto)]
+
+mod beacon;
+mod beacons;
+mod hop;
+mod issuing;
+mod refusal;
+mod roll;
+mod segment;
+#[cfg(test)]
+mod tests;
+
+use beacon::Beacon;
+pub use beacons::Beacons;
+pub use epic_num::BeaconError;
+pub use segment::SegmentError;

@@ -1,0 +1,4 @@
+pub mod Fetches
+pub mod Issues
+pub mod Keys
+pub mod Tags

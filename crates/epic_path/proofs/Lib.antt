@@ -1,0 +1,13 @@
+pub mod FindsLaws
+pub mod JoinLemmas
+pub mod LinkLaws
+pub mod WalkLaws
+pub mod SumLaws
+pub mod Worth
+pub mod Totals
+pub mod OrderLaws
+pub mod PathsLaws
+pub mod RouteCounts
+pub mod RisingLists
+pub mod EveryPath
+pub mod ConditionLaws
