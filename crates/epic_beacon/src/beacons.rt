@@ -2,6 +2,7 @@ ghost use Rattle.std.specs.Prelude.{◌≡◌, ◌≤◌, [], length, option_map
 ghost use Rattle.epic_num.specs.Chains.{issue_at};
 ghost use Rattle.epic_topo.specs.Network.{Network};
 ghost use Rattle.epic_keys.specs.Issues.{IssuesKept};
+ghost use Rattle.epic_beacon.specs.Chained.{AreChained};
 ghost use Rattle.epic_beacon.specs.Kinds.{KindsKept};
 ghost use Rattle.epic_beacon.specs.Store.{IsUnrolled, issues_of};
 
@@ -45,10 +46,11 @@ impl Beacons {
         }
     }
 
-    /// How many issues there are.
+    /// How many issues there are. They make chains.
     pub fn len(&self) -> u32
         ensures value { result ≡ length self.now.beacons }
         ensures few { result ≤ 65536 }
+        ensures chains { AreChained self.now.beacons }
     {
         self.beacons.len() as u32
     }
