@@ -1,2 +1,3 @@
 pub mod Formulas
+pub mod HopChecks
 pub mod PacketTags
