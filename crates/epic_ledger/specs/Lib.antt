@@ -1,0 +1,4 @@
+pub mod Facts
+pub mod History
+pub mod Lawful
+pub mod Queries
