@@ -3,7 +3,7 @@
 ghost use Rattle.std.specs.Prelude.{◌≡◌, ◌<◌, ◌∷◌, length, map, position, IfOk};
 ghost use Rattle.std.specs.List.{list_all};
 ghost use Rattle.std.specs.Str.Lines.{strip_carriage_return};
-ghost use Rattle.epic_app.specs.Lines.{is_blank, is_line_feed, is_text_byte, lines, parts, words};
+ghost use Rattle.epic_text.specs.Lines.{is_blank, is_line_feed, is_text_byte, lines, parts, words};
 
 use std::alloc::{AllocError, Global};
 

@@ -1,8 +1,8 @@
 use Rattle.std.proofs.Common.{rules, length, nat_lt}
 use Rattle.std.proofs.lemmas.Iterator.Consumers.{map_from_collect, YieldsList-from_filter}
 use Rattle.std.proofs.lemmas.Iterator.Splits.{YieldsList-from_slice_split}
-use Rattle.epic_app.specs.Lines.{is_blank}
-use Rattle.epic_app.proofs.lines.words.Goals as goal
+use Rattle.epic_text.specs.Lines.{is_blank}
+use Rattle.epic_text.proofs.lines.words.Goals as goal
 use borrow.Author.Tests.{tests}
 
 pub returns : goal.returns

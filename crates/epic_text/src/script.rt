@@ -1,10 +1,10 @@
 //! The commands of a script: one a line, but for comments and lines without words.
 
 ghost use Rattle.std.specs.Prelude.{◌≡◌, ◌^◌, ◌<◌, ◌≤◌, ℕ, length, map, vec_len, List, Option, Result, IfOk};
-ghost use Rattle.epic_app.specs.Script.{IsByRule, IsScript, line_command, commands_of};
-ghost use Rattle.epic_app.specs.declared.script.ScriptKind.{ScriptKind};
-ghost use Rattle.epic_app.specs.declared.script.ScriptError.TheVariants as script_error;
-ghost use Rattle.epic_app.specs.declared.script.WordsError.TheVariants as words_error;
+ghost use Rattle.epic_text.specs.Script.{IsByRule, IsScript, line_command, commands_of};
+ghost use Rattle.epic_text.specs.declared.script.ScriptKind.{ScriptKind};
+ghost use Rattle.epic_text.specs.declared.script.ScriptError.TheVariants as script_error;
+ghost use Rattle.epic_text.specs.declared.script.WordsError.TheVariants as words_error;
 
 use crate::lines::{first_line, is_text, words};
 use std::alloc::{AllocError, AllocFailed, Global};
