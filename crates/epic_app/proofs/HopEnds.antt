@@ -1,5 +1,5 @@
 -- How the command `hop` ends, from what its steps ensure.
-use Rattle.std.proofs.Common.{◌≡◌, ◌≢◌, ℕ, ◌+◌, ◌<◌, ◌≤◌, ltb, Bool, true, false, cond, List, [], ◌∷◌, length, replicate, Option, Some, None, Result, Ok, Err, Contains, count_by, refl, sym, ap, ◌∙◌, inl, arith}
+use Rattle.std.proofs.Common.{◌≡◌, ◌≢◌, ℕ, ◌+◌, ◌<◌, ◌≤◌, ltb, Bool, true, false, cond, List, [], ◌∷◌, map, length, replicate, Option, Some, None, Result, Ok, Err, Contains, count_by, refl, sym, ap, ◌∙◌, inl, arith}
 use Rattle.std.proofs.lemmas.Bool.Decides.{nat_tests}
 use Rattle.std.proofs.lemmas.List.{length-replicate}
 use Rattle.std.specs.Global.{Vec}
@@ -16,7 +16,7 @@ use Rattle.epic_app.specs.declared.end.End.TheVariants.{Done, BadWords, BadScrip
 use Rattle.epic_text.specs.Script.{Fault, commands_of}
 use Rattle.epic_app.specs.HopFile.{hop_rule}
 use Rattle.epic_app.specs.HopReport.{answers, is_forged, report_text}
-use Rattle.epic_app.specs.Request.{Request, Hop, Ending, ending_of, report_of, hop_ending, hop_told, refused, fault_line, too_long_line}
+use Rattle.epic_app.specs.Request.{Request, Hop, Contents, Ending, reads_of, ending_of, report_of, hop_ending, hop_told, refused, fault_line, too_long_line}
 use Rattle.epic_app.specs.Outcome.{World, AsTold, EndsByFiles, WriteFails, MemoryEnds, CountsStay, FilesStay}
 use Rattle.epic_app.specs.End.{EndsAs, HasCause, IsStatus}
 
@@ -39,20 +39,18 @@ files_stay request (Some old) (Some new) keeps = λ name absent. ap (λ (files :
 
 -- ---- the file that was read
 
-pub record Read (contents : Option Files) (name bytes : List ℕ) : Type 0 where
-  pub files : Files
-  pub as_told : AsTold contents files
-  pub is_file : files name ≡ Some bytes
+abbrev pub Read : Option Files → List ℕ → List ℕ → Type 0
+Read contents name bytes = AsTold contents (name ∷ []) (Some bytes ∷ [])
 
--- some file that is told, or any where none is
-some_files : (contents : Option Files) → (files : Files) × AsTold contents files
-some_files None = ((λ name. None), tt)
-some_files (Some files) = (files, refl)
+-- what is told, or anything where nothing is
+some_contents : (contents : Option Files) (names : List (List ℕ)) → (told : Contents) × AsTold contents names told
+some_contents None names = ([], tt)
+some_contents (Some files) names = (map files names, refl)
 
 pub read : (contents : Option Files) (name : List ℕ) (limit : ℕ) (bytes : Vec ℕ) →
     ReadsFile contents name limit (Ok bytes) → Read contents name bytes.items
-read None name limit bytes told = record { files = λ q. Some bytes.items; as_told = tt; is_file = refl }
-read (Some files) name limit bytes told = record { files = files; as_told = refl; is_file = told.0 }
+read None name limit bytes told = tt
+read (Some files) name limit bytes told = ap (λ f. f ∷ []) (sym told.0)
 
 longer : (n : ℕ) → (bytes : List ℕ) × (n < length bytes)
 longer n = (replicate (n + 1) 0, omega (arith, length-replicate {A = ℕ} (n + 1) 0))
@@ -62,8 +60,8 @@ pub read_long : (contents : Option Files) (name : List ℕ) (limit : ℕ) →
     (bytes : List ℕ) × (limit < length bytes) × Read contents name bytes
 read_long None name limit told =
     let (bytes, long) = longer limit in
-    (bytes, long, record { files = λ q. Some bytes; as_told = tt; is_file = refl })
-read_long (Some files) name limit (bytes, is, long) = (bytes, long, record { files = files; as_told = refl; is_file = is })
+    (bytes, long, tt)
+read_long (Some files) name limit (bytes, is, long) = (bytes, long, ap (λ f. f ∷ []) (sym is))
 
 cond_past : {X : Type 0} (m n : ℕ) (x y : X) → n ≤ m → cond (ltb m n) x y ≡ y
 cond_past m n x y h = grind (arith, nat_tests)
@@ -87,15 +85,15 @@ one_or_none false = (omega arith, omega arith)
 
 module _ (key name bytes : List ℕ) (old new : World) (file : Read old.contents name bytes) where
   decided : (ending : Ending) → hop_ending key bytes ≡ ending →
-      ending_of file.files (Hop key name) ≡ Some ending
-  decided ending is = ap (option_map (hop_ending key)) file.is_file ∙ ap Some is
+      ending_of (Hop key name) (Some bytes ∷ []) ≡ Some ending
+  decided ending is = ap Some is
 
   by_files : (ending : Ending) (status : ℕ) (line : List ℕ) → hop_ending key bytes ≡ ending →
       status ≡ ending.status → line ≡ ending.line →
       Appends old.written new.written ending.report → EndsByFiles (Hop key name) old new status line
   by_files ending status line is same_status same_line report = record {
-    files = file.files;
-    as_told = file.as_told;
+    contents = Some bytes ∷ [];
+    as_told = file;
     ending = ending;
     is_ending = decided ending is;
     same_status = same_status;
@@ -124,8 +122,8 @@ module _ (key name bytes : List ℕ) (old new : World) (file : Read old.contents
         AppendsFront old.written new.written (report_text (answers key commands)) →
         WriteFails (Hop key name) old new
     write_fails rose report = record {
-      files = file.files;
-      as_told = file.as_told;
+      contents = Some bytes ∷ [];
+      as_told = file;
       ending = hop_told key (Ok commands);
       is_ending = decided (hop_told key (Ok commands)) (within_limit key bytes (Ok commands) within are);
       no_refusal = one_or_none (ltb 0 (count_by is_forged (answers key commands)));
@@ -136,8 +134,8 @@ module _ (key name bytes : List ℕ) (old new : World) (file : Read old.contents
     pub memory_ends : AppendsFront old.written new.written (report_text (answers key commands)) →
         MemoryEnds (Hop key name) old new
     memory_ends report = record {
-      files = file.files;
-      as_told = file.as_told;
+      contents = Some bytes ∷ [];
+      as_told = file;
       report = rw (decided (hop_told key (Ok commands)) (within_limit key bytes (Ok commands) within are)) report;
     }
 
@@ -145,8 +143,8 @@ module _ (key name bytes : List ℕ) (old new : World) (file : Read old.contents
 pub memory_first : (request : Request) (old new : World) → Appends old.written new.written [] →
     MemoryEnds request old new
 memory_first request old new nothing =
-    let (files, as_told) = some_files old.contents in
-    record { files = files; as_told = as_told; report = ([], report_of files request, refl, nothing) }
+    let (contents, as_told) = some_contents old.contents (reads_of request) in
+    record { contents = contents; as_told = as_told; report = ([], report_of request contents, refl, nothing) }
 
 -- ---- the whole
 

@@ -8,9 +8,16 @@ use Rattle.epic_app.specs.declared.hop_file.HopCommand.{HopCommand}
 use Rattle.epic_text.specs.Script.{Fault, commands_of}
 use Rattle.epic_app.specs.HopFile.{hop_rule}
 use Rattle.epic_app.specs.HopReport.{answers, is_forged}
-use Rattle.epic_app.specs.Request.{Request, Hop, Ending, hop_ending, hop_told, refused, too_long_line}
+use Rattle.epic_app.specs.Request.{Request, Hop, Contents, Ending, ending_of, hop_ending, hop_told, refused, too_long_line}
 use Rattle.epic_app.specs.Outcome.{World, ErrorSink, EndsByFiles, EndsUnder, HopHolds, HoldsUnder}
 use Rattle.epic_app.proofs.AnswersHold.{answers_hold}
+
+-- the one file whose contents decided an ending
+from_contents : (key name : List ℕ) (contents : Contents) (ending : Ending) → ending_of (Hop key name) contents ≡ Some ending →
+    (file : Option (List ℕ)) × (contents ≡ file ∷ []) × (option_map (hop_ending key) file ≡ Some ending)
+from_contents key name [] ending is = cc
+from_contents key name (file ∷ []) ending is = (file, refl, is)
+from_contents key name (file ∷ more ∷ files) ending is = cc
 
 -- the file that decided an ending
 from_file : (key : List ℕ) (file : Option (List ℕ)) (ending : Ending) →
@@ -48,15 +55,14 @@ status_one false c status same is = (λ h. absurd (omega (arith, is, h)), λ h. 
 hop_holds : (key name : List ℕ) (old new : World) (status : ℕ) (line : List ℕ) →
     EndsByFiles (Hop key name) old new status line → status < 2 → HopHolds key name old new status
 hop_holds key name old new status line by below =
+    let (file, are_contents, is_hop) = from_contents key name by.contents by.ending by.is_ending in
     let below_two : by.ending.status < 2 = omega (arith, by.same_status, below) in
-    let (bytes, is_file, is_ending) = from_file key (by.files name) by.ending by.is_ending in
+    let (bytes, is_file, is_ending) = from_file key file by.ending is_hop in
     let told = from_limit key (commands_of hop_rule bytes) _ by.ending is_ending below_two in
     let (commands, are, decided) = from_told key (commands_of hop_rule bytes) by.ending told below_two in
     record {
-      files = by.files;
-      as_told = by.as_told;
       bytes = bytes;
-      is_file = is_file;
+      is_file = rw (are_contents ∙ ap (λ f. f ∷ []) is_file) at by.as_told;
       commands = commands;
       are_commands = are;
       given = answers key commands;

@@ -1,5 +1,5 @@
 -- How a command may end: what stands in the store and the sinks then, and the cause of each status.
-use Rattle.std.specs.Prelude.{◌≡◌, ◌≢◌, ℕ, ◌==◌, ◌<◌, ◌⊎◌, ◌↔◌, List, [], Option, Some, None, Ok, Contains, IsTrue, codes, ⊤}
+use Rattle.std.specs.Prelude.{◌≡◌, ◌≢◌, ℕ, ◌==◌, ◌<◌, ◌⊎◌, ◌↔◌, List, [], ◌∷◌, map, Option, Some, None, Ok, Contains, IsTrue, codes, ⊤}
 use Rattle.std.specs.List.{list_any}
 use Rattle.epic_ports.specs.Faults.{Rose}
 use Rattle.epic_ports.specs.Files.{Files}
@@ -9,7 +9,7 @@ use Rattle.epic_app.specs.declared.hop_answer.HopAnswer.{HopAnswer}
 use Rattle.epic_text.specs.Script.{commands_of}
 use Rattle.epic_app.specs.HopFile.{hop_rule}
 use Rattle.epic_app.specs.HopReport.{◌⊕◌, AllHold, is_forged, report_text}
-use Rattle.epic_app.specs.Request.{Request, Hop, request_of, reads_of, writes_of, statuses_of, Ending, ending_of, report_of}
+use Rattle.epic_app.specs.Request.{Request, Hop, request_of, reads_of, writes_of, statuses_of, Contents, Ending, ending_of, report_of}
 
 -- the store and the output: contents and what was written, each where it is told, and the counts of faults
 pub record World : Type 0 where
@@ -41,19 +41,19 @@ abbrev pub Tells : ErrorSink → ErrorSink → List ℕ → Type 0
 Tells old new line =
     Appends old.written new.written line ⊎ (AppendsFront old.written new.written line × Rose old.faults new.faults)
 
--- contents as the store tells them; any where it tells none
-abbrev pub AsTold : Option Files → Files → Type 0
-AsTold None files = ⊤
-AsTold (Some contents) files = files ≡ contents
+-- what the files with these names hold, in order, as the store tells it; anything where it tells nothing
+abbrev pub AsTold : Option Files → List (List ℕ) → Contents → Type 0
+AsTold None names contents = ⊤
+AsTold (Some files) names contents = contents ≡ map files names
 
 -- ---- causes
 
 -- the files were read, and decided status, report and line
 pub record EndsByFiles (request : Request) (old new : World) (status : ℕ) (line : List ℕ) : Type 0 where
-  pub files : Files
-  pub as_told : AsTold old.contents files
+  pub contents : Contents
+  pub as_told : AsTold old.contents (reads_of request) contents
   pub ending : Ending
-  pub is_ending : ending_of files request ≡ Some ending
+  pub is_ending : ending_of request contents ≡ Some ending
   pub same_status : status ≡ ending.status
   pub same_line : line ≡ ending.line
   pub report : Appends old.written new.written ending.report
@@ -76,19 +76,19 @@ WriteRose request old new =
 
 -- the files were read, and refused by no fault; a write failed, and a front of the report was written
 pub record WriteFails (request : Request) (old new : World) : Type 0 where
-  pub files : Files
-  pub as_told : AsTold old.contents files
+  pub contents : Contents
+  pub as_told : AsTold old.contents (reads_of request) contents
   pub ending : Ending
-  pub is_ending : ending_of files request ≡ Some ending
+  pub is_ending : ending_of request contents ≡ Some ending
   pub no_refusal : (ending.status ≢ 3) × (ending.status ≢ 4)
   pub rose : WriteRose request old new
   pub report : AppendsFront old.written new.written ending.report
 
 -- memory was wanting, and a front of the report was written
 pub record MemoryEnds (request : Request) (old new : World) : Type 0 where
-  pub files : Files
-  pub as_told : AsTold old.contents files
-  pub report : AppendsFront old.written new.written (report_of files request)
+  pub contents : Contents
+  pub as_told : AsTold old.contents (reads_of request) contents
+  pub report : AppendsFront old.written new.written (report_of request contents)
 
 -- the counts of files that aren't read or written stay
 pub record CountsStay (request : Request) (old new : World) : Type 0 where
@@ -151,10 +151,8 @@ Ends words old new e f status = EndsUnder (request_of words) old new e f status
 
 -- the file holds commands; the lines are those of answers, each of which holds; status 1 tells that one is forged
 pub record HopHolds (key name : List ℕ) (old new : World) (status : ℕ) : Type 0 where
-  pub files : Files
-  pub as_told : AsTold old.contents files
   pub bytes : List ℕ
-  pub is_file : files name ≡ Some bytes
+  pub is_file : AsTold old.contents (name ∷ []) (Some bytes ∷ [])
   pub commands : List HopCommand
   pub are_commands : commands_of hop_rule bytes ≡ Ok commands
   pub given : List HopAnswer

@@ -4,7 +4,6 @@ use Rattle.std.specs.Prelude.{ℕ, if◌then◌else◌, nat_lt, List, [], ◌∷
 use Rattle.std.specs.Option.{option_map}
 use Rattle.hex.specs.Hex.{decode_sized}
 use Rattle.hex.specs.declared.error.FromHexError.{FromHexError}
-use Rattle.epic_ports.specs.Files.{Files}
 use Rattle.epic_app.specs.declared.hop.TheConstants.{FILE_LIMIT}
 use Rattle.epic_app.specs.declared.hop_file.HopCommand.{HopCommand}
 use Rattle.epic_text.specs.declared.script.ScriptKind.{ScriptKind}
@@ -85,14 +84,19 @@ abbrev pub hop_ending : List ℕ → List ℕ → Ending
 hop_ending key file =
     if nat_lt FILE_LIMIT (length file) then refused too_long_line else hop_told key (commands_of hop_rule file)
 
+-- what the files that are read hold, in the order of their names; none where a file isn't there
+abbrev pub Contents : Type 0
+Contents = List (Option (List ℕ))
+
 -- the end that the contents of the files decide; none where a file isn't there
-abbrev pub ending_of : Files → Request → Option Ending
-ending_of files (Hop key name) = option_map (hop_ending key) (files name)
+abbrev pub ending_of : Request → Contents → Option Ending
+ending_of (Hop key name) (file ∷ []) = option_map (hop_ending key) file
+ending_of (Hop key name) contents = None
 
 -- the report that they decide; empty where a file isn't there
 abbrev pub report_or_none : Option Ending → List ℕ
 report_or_none None = []
 report_or_none (Some ending) = ending.report
 
-abbrev pub report_of : Files → Request → List ℕ
-report_of files request = report_or_none (ending_of files request)
+abbrev pub report_of : Request → Contents → List ℕ
+report_of request contents = report_or_none (ending_of request contents)

@@ -1,8 +1,0 @@
-//! What a forgery shows.
-#![tactic(auto)]
-
-mod dest_message;
-mod forgery_parts;
-mod forgery_text;
-
-pub use forgery_text::forged_text;
