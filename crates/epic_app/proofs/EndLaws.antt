@@ -1,8 +1,8 @@
 -- The contract of the top call, from how a command ended and what was told.
 use Rattle.std.proofs.Common.{◌≡◌, ◌⊎◌, ℕ, ◌<◌, true, false, List, [], Option, Some, None, refl, ap, inl, inr, arith}
 use Rattle.epic_app.specs.declared.end.End.{End}
-use Rattle.epic_app.specs.declared.end.End.TheVariants.{Done, BadWords, BadScript, LongScript, ReadFault, WriteFault, OutOfMemory}
-use Rattle.epic_app.specs.Request.{Request, fault_line, too_long_line}
+use Rattle.epic_app.specs.declared.end.End.TheVariants.{Done, BadWords, BadTopology, LongTopology, BadScript, LongScript, ReadFault, WriteFault, OutOfMemory}
+use Rattle.epic_app.specs.Request.{Request, fault_line, too_long_line, topology_line, long_topology_line}
 use Rattle.epic_app.specs.Outcome.{World, ErrorSink, Tells, EndsByFiles, ReadFails, WriteFails, MemoryEnds, NoFault, EndsWith, EndsUnder, read_line, write_line, memory_line}
 use Rattle.epic_app.specs.End.{status_of, line_of, HasCause, EndsAs, Performs}
 
@@ -13,6 +13,8 @@ module _ (request : Request) (old new : World) (e f : ErrorSink) where
   by_files BadWords cause tells below = absurd cause
   by_files (BadScript line kind) cause tells below = (fault_line line kind, cause, tells)
   by_files LongScript cause tells below = (too_long_line, cause, tells)
+  by_files (BadTopology kind key item) cause tells below = (topology_line kind key item, cause, tells)
+  by_files LongTopology cause tells below = (long_topology_line, cause, tells)
   by_files (ReadFault name) cause tells below = absurd (omega (arith, below))
   by_files WriteFault cause tells below = absurd (omega (arith, below))
   by_files OutOfMemory cause tells below = absurd (omega (arith, below))
@@ -24,6 +26,8 @@ module _ (request : Request) (old new : World) (e f : ErrorSink) where
   read BadWords cause tells is = absurd cause
   read (BadScript line kind) cause tells is = absurd (omega (arith, is))
   read LongScript cause tells is = absurd (omega (arith, is))
+  read (BadTopology kind key item) cause tells is = absurd (omega (arith, is))
+  read LongTopology cause tells is = absurd (omega (arith, is))
   read (ReadFault name) cause tells is = (name.now, cause, tells)
   read WriteFault cause tells is = absurd (omega (arith, is))
   read OutOfMemory cause tells is = absurd (omega (arith, is))
@@ -35,6 +39,8 @@ module _ (request : Request) (old new : World) (e f : ErrorSink) where
   write BadWords cause tells is = absurd cause
   write (BadScript line kind) cause tells is = absurd (omega (arith, is))
   write LongScript cause tells is = absurd (omega (arith, is))
+  write (BadTopology kind key item) cause tells is = absurd (omega (arith, is))
+  write LongTopology cause tells is = absurd (omega (arith, is))
   write (ReadFault name) cause tells is = absurd (omega (arith, is))
   write WriteFault cause tells is = (cause, tells)
   write OutOfMemory cause tells is = absurd (omega (arith, is))
@@ -46,6 +52,8 @@ module _ (request : Request) (old new : World) (e f : ErrorSink) where
   memory BadWords cause tells is = absurd cause
   memory (BadScript line kind) cause tells is = absurd (omega (arith, is))
   memory LongScript cause tells is = absurd (omega (arith, is))
+  memory (BadTopology kind key item) cause tells is = absurd (omega (arith, is))
+  memory LongTopology cause tells is = absurd (omega (arith, is))
   memory (ReadFault name) cause tells is = absurd (omega (arith, is))
   memory WriteFault cause tells is = absurd (omega (arith, is))
   memory OutOfMemory cause tells is = (cause, tells)
@@ -57,6 +65,8 @@ module _ (request : Request) (old new : World) (e f : ErrorSink) where
   complete BadWords cause none = absurd cause
   complete (BadScript line kind) cause none = inl (omega arith)
   complete LongScript cause none = inl (omega arith)
+  complete (BadTopology kind key item) cause none = inl (omega arith)
+  complete LongTopology cause none = inl (omega arith)
   complete (ReadFault name) cause none = absurd (none.reads name.now cause.read cause.rose)
   complete WriteFault cause none = absurd (none.writes cause.rose)
   complete OutOfMemory cause none = inr refl

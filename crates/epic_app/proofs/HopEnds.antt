@@ -12,11 +12,11 @@ use Rattle.epic_app.specs.declared.hop.TheConstants.{FILE_LIMIT}
 use Rattle.epic_app.specs.declared.hop_file.HopCommand.{HopCommand}
 use Rattle.epic_text.specs.declared.script.ScriptKind.{ScriptKind}
 use Rattle.epic_app.specs.declared.end.End.{End}
-use Rattle.epic_app.specs.declared.end.End.TheVariants.{Done, BadWords, BadScript, LongScript, ReadFault, WriteFault, OutOfMemory}
+use Rattle.epic_app.specs.declared.end.End.TheVariants.{Done, BadWords, BadTopology, LongTopology, BadScript, LongScript, ReadFault, WriteFault, OutOfMemory}
 use Rattle.epic_text.specs.Script.{Fault, commands_of}
 use Rattle.epic_app.specs.HopFile.{hop_rule}
 use Rattle.epic_app.specs.HopReport.{answers, is_forged, report_text}
-use Rattle.epic_app.specs.Request.{Request, Hop, Contents, Ending, reads_of, ending_of, report_of, hop_ending, hop_told, refused, fault_line, too_long_line}
+use Rattle.epic_app.specs.Request.{Request, Hop, Contents, Ending, reads_of, ending_of, report_of, hop_ending, hop_told, refused, fault_line, too_long_line, topology_line, long_topology_line}
 use Rattle.epic_app.specs.Outcome.{World, AsTold, EndsByFiles, WriteFails, MemoryEnds, CountsStay, FilesStay}
 use Rattle.epic_app.specs.End.{EndsAs, HasCause, IsStatus}
 
@@ -32,7 +32,7 @@ counts_stay key name old new only same = record {
   writes = λ q absent. ap (λ (counts : List ℕ → ℕ). counts q) same;
 }
 
-files_stay : (request : Request) (old new : Option Files) → KeepsFiles old new → FilesStay request old new
+pub files_stay : (request : Request) (old new : Option Files) → KeepsFiles old new → FilesStay request old new
 files_stay request None new keeps = tt
 files_stay request (Some old) None keeps = keeps
 files_stay request (Some old) (Some new) keeps = λ name absent. ap (λ (files : Files). files name) keeps
@@ -63,10 +63,10 @@ read_long None name limit told =
     (bytes, long, tt)
 read_long (Some files) name limit (bytes, is, long) = (bytes, long, ap (λ f. f ∷ []) (sym is))
 
-cond_past : {X : Type 0} (m n : ℕ) (x y : X) → n ≤ m → cond (ltb m n) x y ≡ y
+pub cond_past : {X : Type 0} (m n : ℕ) (x y : X) → n ≤ m → cond (ltb m n) x y ≡ y
 cond_past m n x y h = grind (arith, nat_tests)
 
-cond_below : {X : Type 0} (m n : ℕ) (x y : X) → m < n → cond (ltb m n) x y ≡ x
+pub cond_below : {X : Type 0} (m n : ℕ) (x y : X) → m < n → cond (ltb m n) x y ≡ x
 cond_below m n x y h = grind (arith, nat_tests)
 
 within_limit : (key bytes : List ℕ) (t : Result (List HopCommand) Fault) → length bytes ≤ FILE_LIMIT →
@@ -79,7 +79,7 @@ past_limit key bytes past = cond_below FILE_LIMIT (length bytes) (refused too_lo
 
 -- ---- causes
 
-one_or_none : (b : Bool) → (cond {A = ℕ} b 1 0 ≢ 3) × (cond {A = ℕ} b 1 0 ≢ 4)
+pub one_or_none : (b : Bool) → (cond {A = ℕ} b 1 0 ≢ 3) × (cond {A = ℕ} b 1 0 ≢ 4)
 one_or_none true = (omega arith, omega arith)
 one_or_none false = (omega arith, omega arith)
 
@@ -148,6 +148,29 @@ memory_first request old new nothing =
 
 -- ---- the whole
 
+told_not_three : (key : List ℕ) (t : Result (List HopCommand) Fault) → (hop_told key t).status ≢ 3
+told_not_three key (Ok commands) = (one_or_none (ltb 0 (count_by is_forged (answers key commands)))).0
+told_not_three key (Err (line, kind)) = omega arith
+
+not_three : (past : Bool) (key : List ℕ) (t : Result (List HopCommand) Fault) → (cond past (refused too_long_line) (hop_told key t)).status ≢ 3
+not_three true key t = omega arith
+not_three false key t = told_not_three key t
+
+-- `hop` has no topology
+ending_not_three : (key : List ℕ) (file : Option (List ℕ)) (ending : Ending) → option_map (hop_ending key) file ≡ Some ending → ending.status ≢ 3
+ending_not_three key None ending is = absurd (cc)
+ending_not_three key (Some bytes) ending is =
+    let same : hop_ending key bytes ≡ ending = cc in
+    rw (sym same) (not_three (ltb FILE_LIMIT (length bytes)) key (commands_of hop_rule bytes))
+
+files_not_three : (key name : List ℕ) (contents : Contents) (ending : Ending) → ending_of (Hop key name) contents ≡ Some ending → ending.status ≢ 3
+files_not_three key name [] ending is = absurd (cc)
+files_not_three key name (file ∷ []) ending is = ending_not_three key file ending is
+files_not_three key name (file ∷ more ∷ files) ending is = absurd (cc)
+
+never_three : (key name : List ℕ) (old new : World) (line : List ℕ) → EndsByFiles (Hop key name) old new 3 line → ⊥
+never_three key name old new line by = files_not_three key name by.contents by.ending by.is_ending (sym by.same_status)
+
 hop_status : (key name : List ℕ) (old new : World) (end : End) → HasCause (Hop key name) old new end →
     IsStatus (Hop key name) end
 hop_status key name old new (Done true) cause = refl
@@ -155,6 +178,8 @@ hop_status key name old new (Done false) cause = refl
 hop_status key name old new BadWords cause = absurd cause
 hop_status key name old new (BadScript line kind) cause = refl
 hop_status key name old new LongScript cause = refl
+hop_status key name old new (BadTopology kind item_key item) cause = absurd (never_three key name old new (topology_line kind item_key item) cause)
+hop_status key name old new LongTopology cause = absurd (never_three key name old new long_topology_line cause)
 hop_status key name old new (ReadFault file) cause = refl
 hop_status key name old new WriteFault cause = refl
 hop_status key name old new OutOfMemory cause = refl

@@ -1,15 +1,23 @@
 -- What a report claims, from the contract of the top call.
-use Rattle.std.proofs.Common.{◌≡◌, ◌↔◌, ℕ, ◌+◌, ◌<◌, Bool, true, false, cond, ltb, ◌||◌, List, [], ◌∷◌, Option, Some, None, Result, Ok, Err, count_by, IsTrue, refl, sym, ap, ◌∙◌, arith}
-use Rattle.std.specs.List.{list_any}
-use Rattle.std.specs.Option.{option_map}
+use Rattle.std.proofs.Common.{◌≡◌, ◌↔◌, ℕ, ◌+◌, ◌<◌, Bool, true, false, cond, ltb, ◌||◌, List, [], ◌∷◌, length, Option, Some, None, Result, Ok, Err, count_by, IsTrue, refl, sym, ap, ◌∙◌, arith}
+use Rattle.std.specs.List.{All, list_any}
+use Rattle.std.specs.Option.{option_map, option_and_then}
 use Rattle.std.proofs.lemmas.Bool.Decides.{nat_tests}
 use Rattle.std.proofs.lemmas.List.Sums.{sum_by-cons}
+use Rattle.epic_num.specs.declared.command.Command.{Command}
+use Rattle.epic_topo.specs.Network.{Network}
+use Rattle.epic_topo.specs.Reading.{topology}
+use Rattle.epic_topo.specs.declared.fault.TopoError.{TopoError}
+use Rattle.epic_topo.specs.declared.fault.TopoError.TheVariants.{Bad, OutOfMemory}
+use Rattle.epic_text.specs.RunScript.{run_rule}
+use Rattle.epic_app.specs.declared.run_files.TheConstants.{TOPOLOGY_LIMIT, SCRIPT_LIMIT}
+use Rattle.epic_app.specs.RunReport.{run, has_alarm, VerdictsHold}
 use Rattle.epic_app.specs.declared.hop_file.HopCommand.{HopCommand}
 use Rattle.epic_text.specs.Script.{Fault, commands_of}
 use Rattle.epic_app.specs.HopFile.{hop_rule}
 use Rattle.epic_app.specs.HopReport.{answers, is_forged}
-use Rattle.epic_app.specs.Request.{Request, Hop, Contents, Ending, ending_of, hop_ending, hop_told, refused, too_long_line}
-use Rattle.epic_app.specs.Outcome.{World, ErrorSink, EndsByFiles, EndsUnder, HopHolds, HoldsUnder}
+use Rattle.epic_app.specs.Request.{Request, Hop, Run, Contents, Ending, ending_of, hop_ending, hop_told, refused, too_long_line, run_ending, network_ending, script_ending, run_told, no_topology, long_topology_line, topology_line}
+use Rattle.epic_app.specs.Outcome.{World, ErrorSink, EndsByFiles, EndsUnder, HopHolds, RunHolds, HoldsUnder}
 use Rattle.epic_app.proofs.AnswersHold.{answers_hold}
 
 -- the one file whose contents decided an ending
@@ -71,9 +79,80 @@ hop_holds key name old new status line by below =
       forged = status_one (ltb 0 (count_by is_forged (answers key commands))) (list_any is_forged (answers key commands)) status (any_count is_forged (answers key commands)) (by.same_status ∙ ap (λ (e : Ending). e.status) decided);
     }
 
+-- ---- a run
+
+-- the two files whose contents decided an ending
+run_contents : (m n : List ℕ) (contents : Contents) (ending : Ending) → ending_of (Run m n) contents ≡ Some ending
+    → (first : Option (List ℕ)) × (second : Option (List ℕ)) × (contents ≡ first ∷ second ∷ []) × (option_and_then (λ t. run_ending t second) first ≡ Some ending)
+run_contents m n [] ending is = absurd (cc)
+run_contents m n (first ∷ []) ending is = absurd (cc)
+run_contents m n (first ∷ second ∷ []) ending is = (first, second, refl, is)
+run_contents m n (first ∷ second ∷ third ∷ more) ending is = absurd (cc)
+
+-- the first is there
+from_first : (first second : Option (List ℕ)) (ending : Ending) → option_and_then (λ t. run_ending t second) first ≡ Some ending
+    → (text : List ℕ) × (first ≡ Some text) × (run_ending text second ≡ Some ending)
+from_first None second ending is = absurd (cc)
+from_first (Some text) second ending is = (text, refl, is)
+
+-- an ending of status 0 or 1 is of a topology
+from_text : (r : Result Network TopoError) (past : Bool) (second : Option (List ℕ)) (ending : Ending)
+    → cond past (Some (no_topology long_topology_line)) (network_ending r second) ≡ Some ending → ending.status < 2
+    → (t : Network) × (r ≡ Ok t) × (option_map (script_ending t) second ≡ Some ending)
+from_text r true second ending is below =
+    let same : no_topology long_topology_line ≡ ending = cc in
+    absurd (omega (arith, ap (λ (e : Ending). e.status) same, below))
+from_text (Ok t) false second ending is below = (t, refl, is)
+from_text (Err (Bad kind key item)) false second ending is below =
+    let same : no_topology (topology_line kind key item) ≡ ending = cc in
+    absurd (omega (arith, ap (λ (e : Ending). e.status) same, below))
+from_text (Err OutOfMemory) false second ending is below = absurd (cc)
+
+from_second : (t : Network) (second : Option (List ℕ)) (ending : Ending) → option_map (script_ending t) second ≡ Some ending
+    → (script : List ℕ) × (second ≡ Some script) × (script_ending t script ≡ ending)
+from_second t None ending is = absurd (cc)
+from_second t (Some script) ending is = (script, refl, cc)
+
+from_script : (t : Network) (r : Result (List Command) Fault) (past : Bool) (ending : Ending)
+    → cond past (refused too_long_line) (run_told t r) ≡ ending → ending.status < 2
+    → (commands : List Command) × (r ≡ Ok commands) × (ending ≡ run_told t (Ok commands))
+from_script t r true ending is below = absurd (omega (arith, ap (λ (e : Ending). e.status) is, below))
+from_script t (Ok commands) false ending is below = (commands, refl, sym is)
+from_script t (Err (line, kind)) false ending is below = absurd (omega (arith, ap (λ (e : Ending). e.status) is, below))
+
+-- STAND-IN
+every_verdict_holds : (t : Network) (commands : List Command) → All (VerdictsHold t) (run t commands)
+unfolding VerdictsHold
+every_verdict_holds t commands = ?
+
+run_holds : (m n : List ℕ) (old new : World) (status : ℕ) (line : List ℕ) → EndsByFiles (Run m n) old new status line → status < 2
+    → RunHolds m n old new status
+run_holds m n old new status line by below =
+    let below_two : by.ending.status < 2 = omega (arith, by.same_status, below) in
+    let (first, second, are_contents, is_run) = run_contents m n by.contents by.ending by.is_ending in
+    let (text, is_text, is_text_ending) = from_first first second by.ending is_run in
+    let (t, is_network, is_network_ending) = from_text (topology text) (ltb TOPOLOGY_LIMIT (length text)) second by.ending is_text_ending below_two in
+    let (script, is_script, is_script_ending) = from_second t second by.ending is_network_ending in
+    let (commands, are, decided) = from_script t (commands_of run_rule script) (ltb SCRIPT_LIMIT (length script)) by.ending is_script_ending below_two in
+    record {
+      text = text;
+      bytes = script;
+      are_files = rw (are_contents ∙ ap (λ o. o ∷ second ∷ []) is_text ∙ ap (λ o. Some text ∷ o ∷ []) is_script) at by.as_told;
+      network = t;
+      is_network = is_network;
+      commands = commands;
+      are_commands = are;
+      hold = every_verdict_holds t commands;
+      report = rw decided at by.report;
+      alarm = status_one (has_alarm (run t commands)) (has_alarm (run t commands)) status refl (by.same_status ∙ ap (λ (e : Ending). e.status) decided);
+    }
+
 pub holds_under : (request : Option Request) (old new : World) (e f : ErrorSink) (status : ℕ) →
     EndsUnder request old new e f status → HoldsUnder request old new status
 holds_under None old new e f status ended = tt
 holds_under (Some (Hop key name)) old new e f status ended = λ below.
     let (line, by, tells) = ended.by_files (omega (arith, below)) in
     hop_holds key name old new status line by below
+holds_under (Some (Run m n)) old new e f status ended = λ below.
+    let (line, by, tells) = ended.by_files (omega (arith, below)) in
+    run_holds m n old new status line by below

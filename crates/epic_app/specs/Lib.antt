@@ -3,5 +3,7 @@ pub mod HopFile
 pub mod HopReport
 pub mod Outcome
 pub mod Request
+pub mod RunFiles
+pub mod RunReport
 pub mod Spelling
 pub mod Writing

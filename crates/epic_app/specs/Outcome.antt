@@ -1,15 +1,22 @@
 -- How a command may end: what stands in the store and the sinks then, and the cause of each status.
 use Rattle.std.specs.Prelude.{◌≡◌, ◌≢◌, ℕ, ◌==◌, ◌<◌, ◌⊎◌, ◌↔◌, List, [], ◌∷◌, map, Option, Some, None, Ok, Contains, IsTrue, codes, ⊤}
-use Rattle.std.specs.List.{list_any}
+use Rattle.std.specs.List.{All, list_any}
 use Rattle.epic_ports.specs.Faults.{Rose}
 use Rattle.epic_ports.specs.Files.{Files}
 use Rattle.epic_ports.specs.Written.{Appends, AppendsFront}
+use Rattle.epic_num.specs.declared.command.Command.{Command}
+use Rattle.epic_topo.specs.Network.{Network}
+use Rattle.epic_topo.specs.Reading.{topology as topology_of}
+use Rattle.epic_text.specs.RunScript.{run_rule}
+use Rattle.epic_app.specs.RunReport.{run}
+use Rattle.epic_app.specs.RunReport.{VerdictsHold}
+use Rattle.epic_app.specs.RunReport.{run_text, has_alarm}
 use Rattle.epic_app.specs.declared.hop_file.HopCommand.{HopCommand}
 use Rattle.epic_app.specs.declared.hop_answer.HopAnswer.{HopAnswer}
 use Rattle.epic_text.specs.Script.{commands_of}
 use Rattle.epic_app.specs.HopFile.{hop_rule}
 use Rattle.epic_app.specs.HopReport.{◌⊕◌, AllHold, is_forged, report_text}
-use Rattle.epic_app.specs.Request.{Request, Hop, request_of, reads_of, writes_of, statuses_of, Contents, Ending, ending_of, report_of}
+use Rattle.epic_app.specs.Request.{Request, Hop, Run, request_of, reads_of, writes_of, statuses_of, Contents, Ending, ending_of, report_of}
 
 -- the store and the output: contents and what was written, each where it is told, and the counts of faults
 pub record World : Type 0 where
@@ -61,6 +68,7 @@ pub record EndsByFiles (request : Request) (old new : World) (status : ℕ) (lin
 -- what is in the output where a file could not be read
 abbrev pub PrintsBefore : Request → List ℕ → World → World → Type 0
 PrintsBefore (Hop key file) name old new = Appends old.written new.written []
+PrintsBefore (Run topology script) name old new = Appends old.written new.written []
 
 -- a read of this file failed
 pub record ReadFails (request : Request) (old new : World) (name : List ℕ) : Type 0 where
@@ -160,9 +168,24 @@ pub record HopHolds (key name : List ℕ) (old new : World) (status : ℕ) : Typ
   pub report : Appends old.written new.written (report_text given)
   pub forged : (status ≡ 1) ↔ IsTrue (list_any is_forged given)
 
+-- The files hold a topology and commands; the lines are those of the commands' steps, whose verdicts are true; status 1 tells
+-- that one says forged or collided.
+pub record RunHolds (topology script : List ℕ) (old new : World) (status : ℕ) : Type 0 where
+  pub text : List ℕ
+  pub bytes : List ℕ
+  pub are_files : AsTold old.contents (topology ∷ script ∷ []) (Some text ∷ Some bytes ∷ [])
+  pub network : Network
+  pub is_network : topology_of text ≡ Ok network
+  pub commands : List Command
+  pub are_commands : commands_of run_rule bytes ≡ Ok commands
+  pub hold : All (VerdictsHold network) (run network commands)
+  pub report : Appends old.written new.written (run_text network (run network commands))
+  pub alarm : (status ≡ 1) ↔ IsTrue (has_alarm (run network commands))
+
 abbrev pub HoldsUnder : Option Request → World → World → ℕ → Type 0
 HoldsUnder None old new status = ⊤
 HoldsUnder (Some (Hop key name)) old new status = status < 2 → HopHolds key name old new status
+HoldsUnder (Some (Run topology script)) old new status = status < 2 → RunHolds topology script old new status
 
 abbrev pub ReportHolds : List (List ℕ) → World → World → ℕ → Type 0
 ReportHolds words old new status = HoldsUnder (request_of words) old new status

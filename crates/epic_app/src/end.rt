@@ -6,19 +6,28 @@ ghost use Rattle.epic_ports.specs.Written.{Appends, AppendsFront};
 ghost use Rattle.epic_text.specs.declared.script.ScriptKind.TheVariants.{BadWord};
 ghost use Rattle.epic_app.specs.End.{line_of, status_of};
 ghost use Rattle.epic_app.specs.Outcome.{Tells, error_sink};
-ghost use Rattle.epic_app.specs.Request.{fault_line, named_line};
+ghost use Rattle.epic_app.specs.Request.{fault_line, named_line, topology_line};
 
 use epic_ports::{PortError, Sink, write_all};
+use epic_topo::{TopoKey, TopoKind};
 use epic_text::ScriptKind;
 use itoa::Buffer;
 
 /// How a command ended.
 #[derive(Clone, Copy, Debug)]
 pub enum End<'a> {
-    /// The run was done; some check was forged or none was.
+    /// The run was done; some tag was forged or stands for two hops, or none.
     Done { forged: bool },
     /// The words are no command.
     BadWords,
+    /// The topology is refused: its first fault.
+    BadTopology {
+        kind: TopoKind,
+        key: TopoKey,
+        item: u32,
+    },
+    /// The topology is too long.
+    LongTopology,
     /// This line of the script, counted from 1, is refused.
     BadScript { line: u32, kind: ScriptKind },
     /// The script is too long.
@@ -38,6 +47,7 @@ impl End<'_> {
         match self {
             End::Done { forged } => u8::from(*forged),
             End::BadWords => 2,
+            End::BadTopology { .. } | End::LongTopology => 3,
             End::BadScript { .. } | End::LongScript => 4,
             End::ReadFault(_) => 6,
             End::WriteFault => 7,
@@ -121,6 +131,34 @@ fn write_bad_word<E: Sink>(err: &mut E, line: u32, word: u32) -> Result<(), Port
     )
 }
 
+/// Writes the line of a topology's fault.
+fn write_topology_fault<E: Sink>(
+    err: &mut E,
+    kind: TopoKind,
+    key: TopoKey,
+    item: u32,
+) -> Result<(), PortError>
+    ensures ok { OnOk result (Appends (E.written err.old) (E.written err.new)
+        (topology_line kind key item)) }
+    ensures err { OnErr result (AppendsFront (E.written err.old) (E.written err.new)
+        (topology_line kind key item)) }
+    ensures cause { FailsOnlyBy (E.faults err.old) (E.faults err.new) result }
+{
+    let mut number = Buffer::new();
+    write_pieces(
+        err,
+        &[
+            b"epic: topology ",
+            kind.word().as_bytes(),
+            b" ",
+            key.word().as_bytes(),
+            b" ",
+            number.format(item).as_bytes(),
+            b"\n",
+        ],
+    )
+}
+
 /// Writes the line of `end`, if it has one.
 fn write_end<E: Sink>(err: &mut E, end: &End<'_>) -> Result<(), PortError>
     ensures ok { OnOk result (Appends (E.written err.old) (E.written err.new) (line_of end.now)) }
@@ -132,6 +170,8 @@ fn write_end<E: Sink>(err: &mut E, end: &End<'_>) -> Result<(), PortError>
         End::Done { .. } => Ok(()),
         End::BadWords => write_all(err, b"epic: words\n"),
         End::BadScript { line, kind } => write_fault(err, *line, *kind),
+        End::BadTopology { kind, key, item } => write_topology_fault(err, *kind, *key, *item),
+        End::LongTopology => write_all(err, b"epic: topology too-long text 0\n"),
         End::LongScript => write_all(err, b"epic: script too-long\n"),
         End::ReadFault(name) => write_pieces(err, &[b"epic: read ", name.as_bytes(), b"\n"]),
         End::WriteFault => write_all(err, b"epic: write\n"),

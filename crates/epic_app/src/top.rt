@@ -8,7 +8,8 @@ ghost use Rattle.epic_app.specs.Request.{request_of};
 
 use crate::end::{End, tell};
 use crate::hop::hop;
-use crate::words::hop_words;
+use crate::run::run;
+use crate::words::{hop_words, run_words};
 use epic_ports::{Sink, Store};
 use std::alloc::Global;
 
@@ -26,8 +27,11 @@ fn perform<'a, S: Store, O: Sink>(
         (O.written out.new) (O.faults out.new))
         result }
 {
-    match hop_words(words) {
-        Some(words) => hop(alloc, &words.key, words.file, store, out),
+    if let Some(words) = hop_words(words) {
+        return hop(alloc, &words.key, words.file, store, out);
+    }
+    match run_words(words) {
+        Some(words) => run(alloc, words.topology, words.script, store, out),
         None => End::BadWords,
     }
 }

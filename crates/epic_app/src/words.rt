@@ -2,7 +2,7 @@
 
 ghost use Rattle.std.specs.Prelude.{◌≡◌, map, MatchOption, None, Some};
 ghost use Rattle.std.specs.String.{string_bytes};
-ghost use Rattle.epic_app.specs.Request.{Hop, hop_of};
+ghost use Rattle.epic_app.specs.Request.{Hop, Run, hop_of, run_of};
 
 use hex::FromHex;
 
@@ -32,5 +32,32 @@ pub fn hop_words(words: &[String]) -> Option<HopWords<'_>>
     Some(HopWords {
         key,
         file: file.as_str(),
+    })
+}
+
+/// The words of `run`.
+#[derive(Clone, Copy, Debug)]
+pub struct RunWords<'a> {
+    /// The name of the topology's file.
+    pub topology: &'a str,
+    /// The name of the script's file.
+    pub script: &'a str,
+}
+
+/// The words `run TOPOLOGY SCRIPT`. `None` where the words are others. No memory is taken.
+pub fn run_words(words: &[String]) -> Option<RunWords<'_>>
+    ensures { MatchOption result
+        (run_of (map string_bytes words.entry.now) ≡ None)
+        (λ run. run_of (map string_bytes words.entry.now) ≡ Some (Run run.topology.now run.script.now)) }
+{
+    let [command, topology, script] = words else {
+        return None;
+    };
+    if command.as_str() != "run" {
+        return None;
+    }
+    Some(RunWords {
+        topology: topology.as_str(),
+        script: script.as_str(),
     })
 }
