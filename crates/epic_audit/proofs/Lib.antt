@@ -1,0 +1,7 @@
+mod Finds
+mod Tests
+mod Queries
+mod Chained
+mod Twins
+mod Fields
+mod Hop
