@@ -1,24 +1,24 @@
 -- Two hops that follow one another in a segment, and what it means that the chain breaks at them.
-use Rattle.std.proofs.Common.{◌≡◌, ◌≢◌, ℕ, zero, suc, ◌+◌, ◌-◌, ◌<◌, ◌≤◌, Bool, true, false, ◌&&◌, ◌==◌, List, refl, ap, sym, ◌∙◌, subst, arith, inl, inr}
-use Rattle.std.specs.Prelude.{◌⊎◌, Option, Some, None, nat_lt, option_map, option_and_then, unwrap_or, slice_get, if◌then◌else◌, bytes_eq}
+use Rattle.std.proofs.Common.{◌≡◌, ℕ, suc, ◌+◌, ◌-◌, ◌<◌, ◌≤◌, Bool, true, false, ◌==◌, List, refl, ap, sym, ◌∙◌, subst, arith, inl, inr}
+use Rattle.std.specs.Prelude.{Option, Some, None, nat_lt, option_and_then, unwrap_or, slice_get, if◌then◌else◌, bytes_eq}
 use Rattle.std.specs.Bool.{MatchBool}
 use Rattle.std.specs.List.{list_any}
 use Rattle.std.specs.Option.{option_map_or}
-use Rattle.std.proofs.lemmas.Bool.{and_parts, and_from, lt-ltb, le-ltb, eqb-true, cond_both}
+use Rattle.std.proofs.lemmas.Bool.{and_parts, lt-ltb, le-ltb, eqb-true, cond_both}
 use Rattle.std.proofs.lemmas.Option.{same_Some}
 use Rattle.std.proofs.lemmas.Slice.Eq.{bytes_eq-Decides}
 use Rattle.epic_num.specs.declared.hop.HopName.{HopName}
 use Rattle.epic_num.specs.declared.name.AsId.{AsId}
 use Rattle.epic_num.specs.Chains.{Issue, issue_at, name_of}
 use Rattle.epic_num.proofs.ChainLaws.{issue_at-suc}
-use Rattle.epic_layout.specs.Contents.{Contents, IsPacket, IsRoute, hop_count}
-use Rattle.epic_layout.specs.Laws.{Follows, IsPlaceOf}
+use Rattle.epic_layout.specs.Contents.{Contents}
+use Rattle.epic_layout.specs.Laws.{Follows}
 use Rattle.epic_layout.specs.Route.{Route, hops_of, place, position, successor, is_first, hop, body}
 use Rattle.epic_layout.specs.Spelling.{path_bytes}
 use Rattle.epic_layout.proofs.HopPlaces.{places_are_one, neighbours_follow}
 use Rattle.epic_layout.proofs.OneSpelling.{paths_are_one}
 use Rattle.epic_topo.specs.Network.{Network}
-use Rattle.epic_keys.specs.Issues.{IsRoot, IsChild, IssuesKept}
+use Rattle.epic_keys.specs.Issues.{IssuesKept}
 use Rattle.epic_keys.specs.Tags.{link}
 use Rattle.epic_fields.specs.HopChecks.{hop_name, has_link}
 use Rattle.epic_ledger.specs.Facts.{Facts, Pass, pass_name}
@@ -28,7 +28,7 @@ use Rattle.epic_audit.specs.Collided.{HaveOneLink}
 use Rattle.epic_audit.specs.Kept.{Kept, ArePackets, IsKeptPass}
 use Rattle.epic_audit.specs.Laws.{IsAccepted}
 use Rattle.epic_audit.specs.Verdicts.{no_name, is_child, parent_name, broken, broken_between, broken_chain}
-use Rattle.epic_audit.proofs.Finds.{Found, found, any_there, none_there}
+use Rattle.epic_audit.proofs.Finds.{found, any_there, none_there}
 use Rattle.epic_audit.proofs.Queries.{at_place, name_there, named_there, issued, unissued}
 use Rattle.epic_audit.proofs.Tests.{is_child-Decides}
 

@@ -1,5 +1,5 @@
 -- The verdict of an accepted hop is Proved exactly where the hop's provenance is there, and is always true.
-use Rattle.std.proofs.Common.{◌≡◌, ◌≢◌, ◌↔◌, ℕ, Bool, true, false, List, [], ◌∷◌, refl, ap, sym, ◌∙◌, subst, inl, inr}
+use Rattle.std.proofs.Common.{◌≡◌, ◌↔◌, ℕ, Bool, true, false, refl, ap, sym, ◌∙◌, subst, inl, inr}
 use Rattle.std.specs.Prelude.{Option, Some, None, option_map}
 use Rattle.std.proofs.lemmas.Bool.{both_ways}
 use Rattle.epic_num.specs.declared.hop.HopName.{HopName}
@@ -8,7 +8,7 @@ use Rattle.epic_num.specs.declared.key_name.KeyName.TheVariants.{Fwd}
 use Rattle.epic_num.specs.declared.verdict.ForgedKind.TheVariants as kind
 use Rattle.epic_num.specs.declared.verdict.Part.TheVariants.{Link, Sigma}
 use Rattle.epic_num.specs.declared.verdict.Verdict.{Verdict}
-use Rattle.epic_num.specs.declared.verdict.Verdict.TheVariants.{Proved, Opened, Forged, Collided}
+use Rattle.epic_num.specs.declared.verdict.Verdict.TheVariants.{Opened, Forged, Collided}
 use Rattle.epic_num.specs.Holders.{holders}
 use Rattle.epic_num.specs.Levels.{is_tagged}
 use Rattle.epic_num.specs.Moments.{epoch_of}
@@ -18,13 +18,13 @@ use Rattle.epic_fields.specs.HopChecks.{hop_name, has_field}
 use Rattle.epic_fields.specs.PacketTags.{field_name}
 use Rattle.epic_ledger.specs.Facts.{Facts, Sent, sent_name}
 use Rattle.epic_ledger.specs.Queries.{issue_of}
-use Rattle.epic_audit.specs.Clauses.{IsIssued, IsChained, HopOk, IsSourced}
+use Rattle.epic_audit.specs.Clauses.{IsIssued, HopOk}
 use Rattle.epic_audit.specs.Collided.{HaveOneLink}
 use Rattle.epic_audit.specs.Holds.{HoldsOfHop}
 use Rattle.epic_audit.specs.Kept.{Kept, ArePackets}
 use Rattle.epic_audit.specs.Laws.{HopVerdictsHold}
 use Rattle.epic_audit.specs.Made.{hop_message, IsMadeField}
-use Rattle.epic_audit.specs.Reveals.{IsRevealed, NoneRevealed, reveal_step, least_step}
+use Rattle.epic_audit.specs.Reveals.{reveal_step, least_step}
 use Rattle.epic_audit.specs.Verdicts.{twin_issue, broken_chain, source_of, twin_sent, hop_lines, hop_verdict, IsProved}
 use Rattle.epic_audit.proofs.Chained.{chained, not_chained, collided_in_chain}
 use Rattle.epic_audit.proofs.Fields.{right_field, tagged_field, same_message}

@@ -5,3 +5,6 @@ mod Chained
 mod Twins
 mod Fields
 mod Hop
+mod Updates
+mod Arrivals
+mod Dest

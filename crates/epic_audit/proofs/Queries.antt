@@ -1,6 +1,6 @@
 -- What the answers of a ledger tell.
-use Rattle.std.proofs.Common.{◌≡◌, ℕ, zero, suc, ◌+◌, ◌-◌, ◌<◌, ◌≤◌, Bool, true, false, ◌||◌, ◌&&◌, List, [], ◌∷◌, refl, ap, sym, ◌∙◌, arith, inl, inr, min}
-use Rattle.std.specs.Prelude.{◌⊎◌, Option, Some, None, option_map, find, slice_get, is_some, IsSome}
+use Rattle.std.proofs.Common.{◌≡◌, ℕ, zero, suc, false, ◌&&◌, List, [], ◌∷◌, refl, ap, sym, ◌∙◌, arith, inl, inr, min}
+use Rattle.std.specs.Prelude.{Option, Some, None, option_map, find, slice_get}
 use Rattle.std.specs.List.{list_any, position}
 use Rattle.std.proofs.lemmas.Bool.{or_left, or_right, or_cases, and_parts, and_from, cases_lt}
 use Rattle.epic_num.specs.declared.hop.HopName.{HopName}
@@ -14,7 +14,7 @@ use Rattle.epic_layout.specs.Contents.{Contents}
 use Rattle.epic_ledger.specs.Facts.{Facts, Sent, Reveal, sent_name}
 use Rattle.epic_ledger.specs.Queries.{issue_of, reveal_of}
 use Rattle.epic_audit.specs.Clauses.{IsIssued, IsSourced, is_sent_like}
-use Rattle.epic_audit.specs.Reveals.{IsRevealed, IsRevealedAt, NoneRevealed, is_revealed, reveal_step, lesser, least_step}
+use Rattle.epic_audit.specs.Reveals.{IsRevealed, IsRevealedAt, NoneRevealed, reveal_step, lesser, least_step}
 use Rattle.epic_audit.specs.Verdicts.{is_named, source_of}
 use Rattle.epic_audit.proofs.Finds.{found, missing, found_at, missing_at}
 use Rattle.epic_audit.proofs.Tests.{is_named-Decides}

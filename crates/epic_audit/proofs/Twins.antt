@@ -1,20 +1,19 @@
 -- Hops of one AS with one authenticator: what is found of them, and what it means that none is.
-use Rattle.std.proofs.Common.{◌≡◌, ◌≢◌, ℕ, suc, Bool, true, false, ◌&&◌, List, refl, ap, sym, ◌∙◌}
+use Rattle.std.proofs.Common.{◌≡◌, ◌≢◌, ℕ, suc, Bool, true, false, refl, ap, sym, ◌∙◌}
 use Rattle.std.specs.Prelude.{Option, Some, None, find, option_map, option_and_then, slice_get, if◌then◌else◌}
-use Rattle.std.proofs.lemmas.Bool.{and_from}
 use Rattle.std.proofs.lemmas.Option.{cond_some}
 use Rattle.epic_num.specs.declared.hop.HopName.{HopName}
-use Rattle.epic_num.specs.Chains.{Issue, issue_at, name_of}
+use Rattle.epic_num.specs.Chains.{Issue, issue_at}
 use Rattle.epic_num.proofs.ChainLaws.{issue_at-suc}
 use Rattle.epic_layout.specs.Contents.{Contents}
 use Rattle.epic_topo.specs.Network.{Network}
 use Rattle.epic_keys.specs.Tags.{sigma}
 use Rattle.epic_ledger.specs.Facts.{Facts, Sent, sent_name}
-use Rattle.epic_audit.specs.Clauses.{is_level, IsIssued, IsSourced, is_sent_like}
+use Rattle.epic_audit.specs.Clauses.{is_level, IsIssued, is_sent_like}
 use Rattle.epic_audit.specs.Collided.{HaveOneSigma}
 use Rattle.epic_audit.specs.Kept.{AreApart}
 use Rattle.epic_audit.specs.Verdicts.{is_twin, twin_issue, twin_sent}
-use Rattle.epic_audit.proofs.Finds.{Found, found, missing, found_only}
+use Rattle.epic_audit.proofs.Finds.{found, missing, found_only}
 use Rattle.epic_audit.proofs.Queries.{at_place, named_there}
 use Rattle.epic_audit.proofs.Tests.{is_twin-Decides, is_sent_like-Decides}
 
