@@ -8,3 +8,6 @@ mod Hop
 mod Updates
 mod Arrivals
 mod Dest
+mod Growth
+mod Keeping
+mod Lists
