@@ -11,3 +11,7 @@ mod Dest
 mod Growth
 mod Keeping
 mod Lists
+mod Built
+mod Descent
+mod SegmentExamples
+mod Whole
