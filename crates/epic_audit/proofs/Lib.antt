@@ -8,10 +8,11 @@ mod Hop
 mod Updates
 mod Arrivals
 mod Dest
-mod Growth
-mod Keeping
+pub mod Growth
+pub mod Keeping
 mod Lists
 mod Built
 mod Descent
 mod SegmentExamples
-mod Whole
+pub mod Whole
+pub mod Recording
