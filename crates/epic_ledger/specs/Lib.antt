@@ -1,4 +1,7 @@
 pub mod Facts
 pub mod History
 pub mod Lawful
+pub mod Parts
 pub mod Queries
+pub mod Recorded
+pub mod Rows

@@ -1,6 +1,11 @@
 //! The ledger: what happened, in order, and the packets that are under way.
 #![tactic(auto)]
 
+mod emissions;
 mod event;
+mod ledger;
+mod limits;
+mod log;
 
 pub use event::Event;
+pub use ledger::Ledger;
