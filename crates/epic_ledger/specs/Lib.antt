@@ -5,3 +5,4 @@ pub mod Parts
 pub mod Queries
 pub mod Recorded
 pub mod Rows
+pub mod Walks

@@ -5,6 +5,7 @@ ghost use Rattle.epic_num.specs.Levels.{is_first_byte};
 ghost use Rattle.epic_layout.specs.Layout.{fault, parse};
 ghost use Rattle.epic_ledger.specs.History.{Emission, emission_at, emitted, step_of};
 ghost use Rattle.epic_ledger.specs.Facts.{facts_of, issues_in};
+ghost use Rattle.epic_ledger.specs.Queries as queries;
 ghost use Rattle.epic_ledger.specs.Lawful.{Fits, IsLast, IsLawful};
 
 use crate::Event;
@@ -27,6 +28,7 @@ impl Model for Ledger {
 
     ghost Value = { Recorded };
 
+    ghost use Rattle.epic_ledger.specs.Queries as queries;
     ghost use Rattle.epic_ledger.specs.Lawful.{IsLawful};
 
     ghost view = { λ l. record { history = record { events = l.log.events; emissions = l.emissions.emissions }; spare = record { events = l.log.spare; emissions = l.emissions.spare; bytes = l.emissions.byte_spare } } };
@@ -172,5 +174,13 @@ impl Ledger {
         ensures { result ≡ option_map (λ i. (i.name, i.parent)) (issue_at (facts_of self.now.history).issues no) }
     {
         self.log.issue(no)
+    }
+
+    /// The number of the first issue of a name, from 1.
+    #[tactic(auto, unfolding(crate::specs::Facts::facts_of))]
+    pub fn issue_of(&self, name: &HopName) -> Option<u32>
+        ensures { result ≡ queries.issue_of (facts_of self.now.history).issues name.now }
+    {
+        self.log.issue_of(name)
     }
 }

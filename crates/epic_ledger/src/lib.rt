@@ -6,6 +6,10 @@ mod event;
 mod ledger;
 mod limits;
 mod log;
+mod passes;
+mod reveals;
+mod sends;
+mod spot;
 
 pub use event::Event;
 pub use ledger::Ledger;

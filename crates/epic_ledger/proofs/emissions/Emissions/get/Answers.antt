@@ -1,11 +1,8 @@
-use Rattle.std.proofs.Common.{◌≡◌, ◌-◌, List, length, sym, ◌∙◌, ap, subst}
-use Rattle.std.specs.Prelude.{Option, Some, None, option_map, slice_get}
-use Rattle.epic_num.specs.Levels.{is_first_byte}
-use Rattle.epic_layout.specs.Layout.{fault}
+use Rattle.std.proofs.Common.{◌≡◌, ◌-◌, sym, ◌∙◌, ap, subst}
+use Rattle.std.specs.Prelude.{Some, None, option_map, slice_get}
 use Rattle.epic_ledger.specs.History.{emission_at}
 use Rattle.epic_ledger.specs.Parts.{Row}
 use Rattle.epic_ledger.specs.Rows.{emission_in, emissions_in}
-use Rattle.epic_ledger.specs.declared.emissions.Span.{Span}
 use Rattle.epic_ledger.proofs.InRow.{emission_at-row, faultless_at}
 use Rattle.epic_ledger.proofs.emissions.Emissions.get.Goals as goal
 

@@ -1,7 +1,6 @@
-use Rattle.std.proofs.Common.{◌≡◌, ◌≤◌, ◌+◌, length, refl, sym, subst, arith}
+use Rattle.std.proofs.Common.{◌≡◌, ◌≤◌, length, refl, sym, subst, arith}
 use Rattle.epic_ledger.specs.Parts.{Row}
 use Rattle.epic_ledger.specs.declared.emissions.Span.{Span}
-use Rattle.epic_ledger.specs.declared.limits.TheConstants.{MAX_EMISSIONS, MAX_BYTES}
 use Rattle.epic_ledger.proofs.InRow.{emissions_push, row_push}
 use Rattle.epic_ledger.proofs.emissions.Emissions.push.Goals as goal
 
