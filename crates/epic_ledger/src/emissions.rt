@@ -5,6 +5,7 @@ ghost use Rattle.epic_layout.specs.Layout.{fault, parse};
 ghost use Rattle.epic_ledger.specs.History.{Emission, emission_at, emitted};
 
 use crate::limits::{MAX_BYTES, MAX_EMISSIONS};
+use crate::packet::packet_in;
 use epic_num::Place;
 use epic_view::PacketRef;
 use std::alloc::{AllocError, Global};
@@ -32,18 +33,6 @@ fn bytes_in(row: &[u8], span: Span) -> &[u8]
 {
     let start = span.start as usize;
     &row[start..start + span.len as usize]
-}
-
-/// The packet of bytes without a fault.
-#[tactic(auto, unfolding(epic_layout::specs::Layout::parse))]
-pub fn packet_in(bytes: &[u8]) -> PacketRef<'_>
-    requires { fault is_first_byte bytes.now ≡ None }
-    ensures { result ≡ parse bytes.now }
-{
-    match PacketRef::look(bytes) {
-        Ok(packet) => packet,
-        Err(_) => unreachable!(),
-    }
 }
 
 /// Packets with their places, numbered from 1. Their bytes lie in one row.

@@ -6,6 +6,7 @@ mod event;
 mod ledger;
 mod limits;
 mod log;
+mod packet;
 mod passes;
 mod reveals;
 mod sends;

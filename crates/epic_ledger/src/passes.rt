@@ -9,8 +9,8 @@ ghost use Rattle.epic_ledger.specs.Lawful.{FitsPass, IsLawful};
 ghost use Rattle.epic_ledger.specs.Queries as queries;
 ghost use Rattle.epic_ledger.specs.Walks.{pass_with};
 
-use crate::emissions::{Emissions, packet_in};
-use crate::sends::has_ts;
+use crate::emissions::Emissions;
+use crate::packet::{has_ts, packet_in};
 use crate::{Event, Ledger};
 use epic_num::{AsId, HopName, HostId, same_host, same_name};
 use epic_view::PacketRef;

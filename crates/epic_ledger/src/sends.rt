@@ -1,19 +1,17 @@
 //! What sources sent.
 ghost use Rattle.std.specs.Prelude.{◌≡◌, ◌==◌, ◌&&◌, filter_map, option_map, slice_index_or, IfSome, IsSome, None};
-ghost use Rattle.epic_num.specs.Levels.{is_first_byte};
 ghost use Rattle.epic_num.specs.Same as same;
-ghost use Rattle.epic_layout.specs.Layout.{fault, parse};
 ghost use Rattle.epic_ledger.specs.Facts.{as_send, facts_of, issues_in, packet_at};
 ghost use Rattle.epic_ledger.specs.History.{emission_at};
 ghost use Rattle.epic_ledger.specs.Lawful.{IsLawful};
 ghost use Rattle.epic_ledger.specs.Queries as queries;
 ghost use Rattle.epic_ledger.specs.Walks.{issue_of_hop, sent_with};
 
-use crate::emissions::{Emissions, packet_in};
+use crate::emissions::Emissions;
 use crate::log::Log;
+use crate::packet::{has_ts, packet_in};
 use crate::spot::spot_of;
 use crate::{Event, Ledger};
-use epic_layout::u64_at;
 use epic_num::{HostId, same_host};
 
 /// A packet that was sent: its emission, and the last issue of each segment of its path.
@@ -21,15 +19,6 @@ use epic_num::{HostId, same_host};
 pub struct Sending<'a> {
     pub emission: u32,
     pub segments: &'a [u32],
-}
-
-/// Whether the packet has this timestamp, which is read before anything else.
-#[tactic(auto, using(crate::proofs::Spots::timestamp_there), unfolding(epic_layout::specs::Layout::parse))]
-pub fn has_ts(bytes: &[u8], ts: u64) -> bool
-    requires { fault is_first_byte bytes.now ≡ None }
-    ensures { result ≡ ((parse bytes.now).ts == ts) }
-{
-    u64_at(bytes, 32) == ts
 }
 
 /// Whether the packet of an emission has this source and this timestamp.

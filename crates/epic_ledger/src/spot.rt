@@ -4,7 +4,7 @@ ghost use Rattle.epic_num.specs.Levels.{is_first_byte};
 ghost use Rattle.epic_layout.specs.Layout.{fault, parse};
 ghost use Rattle.epic_ledger.specs.Walks.{spot};
 
-use crate::emissions::packet_in;
+use crate::packet::packet_in;
 
 /// The number of a hop's segment, from 0, and how many hops of the segment come after it in construction order.
 #[derive(Clone, Copy)]
