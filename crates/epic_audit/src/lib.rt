@@ -1,0 +1,10 @@
+//! What the ledger says of each acceptance: the verdicts, and why they hold.
+#![tactic(auto)]
+
+mod chain;
+mod events;
+mod laws;
+
+pub use chain::whole_chains;
+pub use events::ledgers;
+pub use laws::{dest_verdicts, hop_verdicts};
