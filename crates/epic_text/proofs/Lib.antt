@@ -1,4 +1,10 @@
+pub mod AnswerLemmas
 pub mod Commands
+pub mod CountLemmas
+pub mod HopLemmas
+pub mod LineLemmas
 pub mod Numbers
 pub mod Parts
+pub mod PathLemmas
 pub mod Short
+pub mod VerdictLemmas

@@ -1,9 +1,23 @@
 //! The texts of scripts and reports.
 #![tactic(auto)]
 
+mod answer_text;
+mod counts;
+mod line;
 mod lines;
+mod passed_text;
+mod refusal_words;
 mod run_command;
 mod script;
+mod verdict_text;
 mod word;
 
+pub use answer_text::{
+    Shown, print_answer, print_issued, print_path, print_paths, print_refusal, print_rolled,
+    print_sent,
+};
+pub use counts::{Counts, counted, print_end};
+pub use line::print_line;
+pub use passed_text::{print_pass, print_passed};
 pub use script::{FromWords, MAX_COMMANDS, ScriptError, ScriptKind, WordsError, read_script};
+pub use verdict_text::{print_dest, print_hop, print_verdict};

@@ -1,0 +1,172 @@
+-- The lines of a report: what each answer prints.
+use Rattle.std.specs.Prelude.{◌≡◌, ℕ, ◌+◌, ◌<◌, IsTrue, List, [], ◌∷◌, ◌++◌, map, length, codes, decimal, Option, Some, None, IsSome, unwrap_or, ⊤}
+use Rattle.std.specs.List.{All, flat_map, join_with_byte}
+use Rattle.hex.specs.Hex.{encode_lower}
+use Rattle.epic_num.specs.declared.answer.Answer.{Answer}
+use Rattle.epic_num.specs.declared.answer.Answer.TheVariants as answer
+use Rattle.epic_num.specs.declared.arrival.Arrival.{Arrival}
+use Rattle.epic_num.specs.declared.arrival.Arrival.TheVariants as arrival
+use Rattle.epic_num.specs.declared.command.Command.{Command}
+use Rattle.epic_num.specs.declared.command.Command.TheVariants as command
+use Rattle.epic_num.specs.declared.hop.HopName.{HopName}
+use Rattle.epic_num.specs.declared.name.AsId.{AsId}
+use Rattle.epic_num.specs.declared.passed.Passed.{Passed}
+use Rattle.epic_num.specs.declared.passed.PassResult.{PassResult}
+use Rattle.epic_num.specs.declared.passed.PassResult.TheVariants.{Turned, Arrived, Full}
+use Rattle.epic_num.specs.declared.path_ref.PathRef.{PathRef}
+use Rattle.epic_num.specs.declared.turn.Turn.{Turn}
+use Rattle.epic_num.specs.declared.turn.Turn.TheVariants as turn
+use Rattle.epic_num.specs.declared.verdict.Verdict.{Verdict}
+use Rattle.epic_num.specs.Bodies.{body_bytes}
+use Rattle.epic_num.specs.Chains.{Issue, name_of}
+use Rattle.epic_num.specs.Levels.{is_first_byte}
+use Rattle.epic_num.specs.Names.{as_text}
+use Rattle.epic_layout.specs.Contents.{Contents}
+use Rattle.epic_layout.specs.Layout.{fault, parse}
+use Rattle.epic_topo.specs.Network.{Network, has}
+use Rattle.epic_keys.specs.Tags.{sigma}
+use Rattle.epic_text.specs.Line.{step_line, bytes_text}
+use Rattle.epic_text.specs.Refusals.{turn_words, arrival_words, refusal_words}
+use Rattle.epic_text.specs.VerdictText.{verdict_words, IsTellable}
+
+-- ---- issues and paths
+
+-- an issue: its number, the AS, the body and the authenticator
+unfoldable pub issue_words : Network → ℕ → HopName → List (List ℕ)
+issue_words t number x =
+    codes "issue" ∷ decimal number ∷ as_text x.asn.0 ∷ encode_lower (body_bytes x.body) ∷ encode_lower (sigma t x) ∷ []
+
+-- numbers with a comma between two
+abbrev pub numbers_text : List ℕ → List ℕ
+numbers_text numbers = join_with_byte 44 (map decimal numbers)
+
+-- a path: the number of its hops, and the last issue of each segment
+unfoldable pub path_words : PathRef → List (List ℕ)
+path_words path = codes "path" ∷ decimal path.hops ∷ numbers_text path.issues.items ∷ []
+
+-- one line a path
+abbrev pub path_lines : ℕ → List PathRef → List ℕ
+path_lines step paths = flat_map (λ path. step_line step (path_words path)) paths
+
+abbrev pub paths_text : ℕ → List PathRef → List ℕ
+paths_text step [] = step_line step (codes "none" ∷ [])
+paths_text step (path ∷ more) = path_lines step (path ∷ more)
+
+-- ---- passes
+
+-- what a router did; the bytes are those of the emission that it made
+abbrev pub turned_words : ℕ → List ℕ → Turn → List (List ℕ)
+turned_words emission bytes (turn.Forward out hops generations) =
+    codes "forward" ∷ decimal out ∷ decimal emission ∷ bytes_text bytes ∷ []
+turned_words emission bytes (turn.Deliver host hops generations) =
+    codes "deliver" ∷ decimal host ∷ decimal emission ∷ bytes_text bytes ∷ []
+turned_words emission bytes (turn.Refused check hop) = turn_words check hop
+
+-- what a destination did
+abbrev pub arrived_words : Arrival → List (List ℕ)
+arrived_words arrival.Accepted = codes "accepted" ∷ []
+arrived_words arrival.Unchecked = codes "unchecked" ∷ []
+arrived_words (arrival.Refused check) = arrival_words check
+
+-- the first line of a pass
+abbrev pub pass_words : ℕ → List ℕ → PassResult → List (List ℕ)
+pass_words emission bytes (Turned turn) = turned_words emission bytes turn
+pass_words emission bytes (Arrived arrival) = arrived_words arrival
+pass_words emission bytes Full = codes "refused" ∷ codes "full" ∷ []
+
+-- the line of a hop that a router handled, by its index in the packet
+abbrev pub hop_line : Network → ℕ → Contents → ℕ → Verdict → List ℕ
+hop_line t step p hop verdict = step_line step (codes "hop" ∷ decimal hop ∷ verdict_words t p verdict)
+
+-- one line a handled hop, the first of which is the packet's current hop as it came in
+abbrev pub hop_lines : Network → ℕ → Contents → ℕ → List Verdict → List ℕ
+hop_lines t step p hop [] = []
+hop_lines t step p hop (verdict ∷ more) = hop_line t step p hop verdict ++ hop_lines t step p (hop + 1) more
+
+-- the line of a destination
+abbrev pub dest_line : Network → ℕ → Contents → Verdict → List ℕ
+dest_line t step p verdict = step_line step (codes "dest" ∷ verdict_words t p verdict)
+
+abbrev pub dest_lines : Network → ℕ → Contents → List Verdict → List ℕ
+dest_lines t step p verdicts = flat_map (dest_line t step p) verdicts
+
+abbrev pub verdict_lines : Network → ℕ → Contents → PassResult → List Verdict → List ℕ
+verdict_lines t step p (Turned turn) verdicts = hop_lines t step p p.current verdicts
+verdict_lines t step p (Arrived arrival) verdicts = dest_lines t step p verdicts
+verdict_lines t step p Full verdicts = []
+
+-- the lines of a pass, of the bytes that came in and those of the emission that it made
+unfoldable pub passed_text : Network → ℕ → List ℕ → List ℕ → Passed → List ℕ
+passed_text t step came emitted passed =
+    step_line step (pass_words passed.emission emitted passed.result)
+    ++ verdict_lines t step (parse came) passed.result passed.verdicts.items
+
+-- the lines of passes of which each gets what the one before emitted
+unfoldable pub carried_text : Network → (ℕ → List ℕ) → ℕ → List ℕ → List Passed → List ℕ
+carried_text t emissions step came [] = []
+carried_text t emissions step came (passed ∷ more) =
+    passed_text t step came (emissions passed.emission) passed
+    ++ carried_text t emissions step (emissions passed.emission) more
+
+-- ---- answers
+
+-- The lines of an answer. The hops that were issued have their names by the issues' numbers, and the packets that were
+-- emitted their bytes by the emissions' numbers; `came` are the bytes that came in.
+unfoldable pub answer_text : Network → (ℕ → HopName) → (ℕ → List ℕ) → List ℕ → ℕ → Answer → List ℕ
+answer_text t names emissions came step answer.Moment = []
+answer_text t names emissions came step (answer.Issued number) = step_line step (issue_words t number (names number))
+answer_text t names emissions came step answer.Fetched = step_line step (codes "fetched" ∷ [])
+answer_text t names emissions came step answer.Known = step_line step (codes "known" ∷ [])
+answer_text t names emissions came step (answer.Paths paths) = paths_text step paths
+answer_text t names emissions came step (answer.Sent emission ts) =
+    step_line step (codes "sent" ∷ decimal emission ∷ decimal ts ∷ bytes_text (emissions emission) ∷ [])
+answer_text t names emissions came step (answer.Passed passed) =
+    passed_text t step came (emissions passed.emission) passed
+answer_text t names emissions came step (answer.Carried passes) = carried_text t emissions step came passes
+answer_text t names emissions came step answer.Revealed = step_line step (codes "revealed" ∷ [])
+answer_text t names emissions came step (answer.Rolled generation) =
+    step_line step (codes "rolled" ∷ decimal generation ∷ [])
+answer_text t names emissions came step (answer.Refused refusal) = step_line step (refusal_words refusal)
+
+-- what stands in the place of the name of an issue that isn't there
+abbrev pub no_name : HopName
+no_name = record {
+  asn = record { 0 = 0 };
+  generation = 0;
+  body = record { pos = 0; exp = 0; ts_path = 0; inn = 0; out = 0; link = [] };
+}
+
+-- the name of the hop that was issued under a number
+unfoldable pub issued_name : List Issue → ℕ → HopName
+issued_name issues number = unwrap_or (name_of issues number) no_name
+
+-- the bytes that a command brings to a router or a host
+unfoldable pub bytes_in : (ℕ → List ℕ) → Command → List ℕ
+bytes_in emissions (command.Turn asn iface bytes) = bytes
+bytes_in emissions (command.Arrive host bytes) = bytes
+bytes_in emissions (command.Pass emission) = emissions emission
+bytes_in emissions (command.Carry emission) = emissions emission
+bytes_in emissions command = []
+
+-- ---- what can be told
+
+-- of the pass, whose verdicts are told over the packet that came in
+pub record IsToldPass (t : Network) (came : List ℕ) (passed : Passed) : Type 0 where
+  pub packet : 0 < length passed.verdicts.items → fault is_first_byte came ≡ None
+  pub verdicts : All (IsTellable t (parse came)) passed.verdicts.items
+
+-- the answer is told over one packet, and the tags that its lines show can be computed
+abbrev pub IsToldAnswer : Network → Option HopName → List ℕ → Answer → Type 0
+IsToldAnswer t (Some name) came (answer.Issued number) = IsTrue (has t name.asn)
+IsToldAnswer t None came (answer.Issued number) = ⊥
+IsToldAnswer t issued came (answer.Passed passed) = IsToldPass t came passed
+IsToldAnswer t issued came (answer.Carried passes) = ⊥
+IsToldAnswer t issued came answer = ⊤
+
+-- what the lines of the answer show besides, by the issues' names and the emissions' bytes
+abbrev pub Shows : (ℕ → HopName) → (ℕ → List ℕ) → Option HopName → List ℕ → Answer → Type 0
+Shows names emissions issued emitted (answer.Issued number) = names number ≡ unwrap_or issued no_name
+Shows names emissions issued emitted (answer.Sent emission ts) = emissions emission ≡ emitted
+Shows names emissions issued emitted (answer.Passed passed) = emissions passed.emission ≡ emitted
+Shows names emissions issued emitted (answer.Carried passes) = ⊥
+Shows names emissions issued emitted answer = ⊤
