@@ -12,7 +12,7 @@ use Rattle.epic_topo.specs.declared.fault.TopoError.{TopoError}
 use Rattle.epic_topo.specs.declared.fault.TopoError.TheVariants.{Bad, OutOfMemory}
 use Rattle.epic_topo.specs.declared.fault.TopoKey.{TopoKey}
 use Rattle.epic_topo.specs.declared.fault.TopoKind.{TopoKind}
-use Rattle.epic_app.specs.RunReport.{run}
+use Rattle.epic_world.specs.Run.{run}
 use Rattle.epic_text.specs.RunScript.{run_rule}
 use Rattle.epic_app.specs.RunReport.{run_text, has_alarm}
 use Rattle.epic_app.specs.declared.hop.TheConstants.{FILE_LIMIT}

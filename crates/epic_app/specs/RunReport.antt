@@ -1,16 +1,69 @@
--- STAND-IN
-use Rattle.std.specs.Prelude.{ℕ, Bool, false, List, []}
+-- The report of a run: the lines of its steps in order, and the counts of its verdicts.
+use Rattle.std.specs.Prelude.{ℕ, ◌||◌, Bool, List, [], ◌∷◌, ◌++◌, length, flat_map, Option, None}
+use Rattle.std.specs.List.{list_any}
+use Rattle.std.specs.Option.{option_map_or}
+use Rattle.epic_num.specs.declared.answer.Answer.{Answer}
+use Rattle.epic_num.specs.declared.answer.Answer.TheVariants.{Issued, Passed, Carried}
 use Rattle.epic_num.specs.declared.command.Command.{Command}
+use Rattle.epic_num.specs.declared.hop.HopName.{HopName}
+use Rattle.epic_num.specs.declared.verdict.Verdict.{Verdict}
+use Rattle.epic_num.specs.Chains.{Issue, name_of}
 use Rattle.epic_topo.specs.Network.{Network}
+use Rattle.epic_ledger.specs.Facts.{issues_in}
+use Rattle.epic_ledger.specs.History.{History, Emission, emission_at}
+use Rattle.epic_world.specs.Run.{Done}
+use Rattle.epic_world.specs.State.{State}
+use Rattle.epic_text.specs.declared.counts.Counts.{Counts}
+use Rattle.epic_text.specs.Counts.{counted, counts_of, end_line, is_forged, is_collided}
+use Rattle.epic_text.specs.Report.{answer_text, issued_name, bytes_in}
 
-unfoldable pub run : Network → List Command → List Command
-run t cs = cs
+-- the bytes of an emission, none where it isn't there
+unfoldable pub emission_bytes : List Emission → ℕ → List ℕ
+emission_bytes emissions number = option_map_or (λ e. e.bytes) (emission_at emissions number) []
 
-unfoldable pub run_text : Network → List Command → List ℕ
-run_text t steps = []
+-- the name of the hop that an answer says was issued
+unfoldable pub issued_in : List Issue → Answer → Option HopName
+issued_in issues (Issued number) = name_of issues number
+issued_in issues answer = None
 
-unfoldable pub has_alarm : List Command → Bool
-has_alarm steps = false
+-- the lines of an answer, over what was issued and emitted by then
+unfoldable pub answered_text : Network → Command → Answer → State → List ℕ
+answered_text t command answer after =
+    answer_text t
+    (issued_name (issues_in after.history.events))
+    (emission_bytes after.history.emissions)
+    (bytes_in (emission_bytes after.history.emissions) command)
+    after.steps
+    answer
 
-unfoldable pub VerdictsHold : Network → Command → Type 0
-VerdictsHold t c = Unit {0}
+-- the lines of a step
+abbrev pub step_text : Network → Done → List ℕ
+step_text t d = answered_text t d.command d.answer d.after
+
+-- the verdicts of an answer, each on one acceptance
+unfoldable pub verdicts_in : Answer → List Verdict
+verdicts_in (Passed pass) = pass.verdicts.items
+verdicts_in (Carried passes) = flat_map (λ pass. pass.verdicts.items) passes
+verdicts_in answer = []
+
+-- those of all steps
+unfoldable pub all_verdicts : List Done → List Verdict
+all_verdicts steps = flat_map (λ d. verdicts_in d.answer) steps
+
+unfoldable pub steps_text : Network → List Done → List ℕ
+steps_text t steps = flat_map (step_text t) steps
+
+unfoldable pub run_text : Network → List Done → List ℕ
+run_text t steps = steps_text t steps ++ end_line (counts_of (length steps) (all_verdicts steps))
+
+-- a tag was forged, or two hops have one
+abbrev pub is_alarm : Verdict → Bool
+is_alarm v = is_forged v || is_collided v
+
+unfoldable pub has_alarm : List Done → Bool
+has_alarm steps = list_any is_alarm (all_verdicts steps)
+
+-- counts with further verdicts
+unfoldable pub count_all : Counts → List Verdict → Counts
+count_all c [] = c
+count_all c (v ∷ vs) = count_all (counted c v) vs

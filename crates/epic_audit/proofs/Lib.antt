@@ -16,3 +16,6 @@ mod Descent
 mod SegmentExamples
 pub mod Whole
 pub mod Recording
+pub mod FieldBytes
+pub mod ForgedLemmas
+pub mod Rows

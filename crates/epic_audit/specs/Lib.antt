@@ -3,6 +3,7 @@ pub mod Clauses
 pub mod Collided
 pub mod Events
 pub mod Forged
+pub mod ForgedText
 pub mod Holds
 pub mod Kept
 pub mod Laws
