@@ -1,5 +1,5 @@
 -- Lines of words.
-use Rattle.std.proofs.Common.{◌≡◌, ℕ, ◌<◌, List, [], ◌∷◌, ◌++◌, length, ap, refl, arith, decimal, append_assoc, ◌∙◌}
+use Rattle.std.proofs.Common.{◌≡◌, ℕ, ◌<◌, List, [], ◌∷◌, ◌++◌, length, refl, arith, decimal, append_assoc, ◌∙◌}
 use Rattle.epic_text.specs.Line.{line_of}
 use Rattle.epic_audit.specs.ForgedText.{words_text}
 

@@ -1,5 +1,5 @@
 -- The lines of a report: what each answer prints.
-use Rattle.std.specs.Prelude.{◌≡◌, ℕ, ◌+◌, ◌<◌, IsTrue, List, [], ◌∷◌, ◌++◌, map, length, codes, decimal, Option, Some, None, IsSome, unwrap_or, ⊤}
+use Rattle.std.specs.Prelude.{◌≡◌, ℕ, ◌+◌, ◌<◌, IsTrue, List, [], ◌∷◌, ◌++◌, map, length, codes, decimal, Option, Some, None, unwrap_or, ⊤}
 use Rattle.std.specs.List.{All, flat_map, join_with_byte}
 use Rattle.hex.specs.Hex.{encode_lower}
 use Rattle.epic_num.specs.declared.answer.Answer.{Answer}
@@ -9,7 +9,6 @@ use Rattle.epic_num.specs.declared.arrival.Arrival.TheVariants as arrival
 use Rattle.epic_num.specs.declared.command.Command.{Command}
 use Rattle.epic_num.specs.declared.command.Command.TheVariants as command
 use Rattle.epic_num.specs.declared.hop.HopName.{HopName}
-use Rattle.epic_num.specs.declared.name.AsId.{AsId}
 use Rattle.epic_num.specs.declared.passed.Passed.{Passed}
 use Rattle.epic_num.specs.declared.passed.PassResult.{PassResult}
 use Rattle.epic_num.specs.declared.passed.PassResult.TheVariants.{Turned, Arrived, Full}

@@ -1,6 +1,6 @@
-use Rattle.std.proofs.Common.{◌≡◌, ◌+◌, ◌++◌, ◌≤◌, get_or, ap, rules, arith}
+use Rattle.std.proofs.Common.{◌≡◌, ◌+◌, ◌++◌, get_or, rules}
 use Rattle.epic_num.specs.declared.verdict.Verdict.TheVariants.{Proved}
-use Rattle.epic_text.specs.Report.{hop_line, hop_lines}
+use Rattle.epic_text.specs.Report.{hop_line}
 use Rattle.epic_text.proofs.HopLemmas.{hop_step, hop_end}
 use Rattle.epic_text.proofs.passed_text.print_hops.Goals as goal
 
