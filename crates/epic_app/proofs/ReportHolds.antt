@@ -11,7 +11,9 @@ use Rattle.epic_topo.specs.declared.fault.TopoError.{TopoError}
 use Rattle.epic_topo.specs.declared.fault.TopoError.TheVariants.{Bad, OutOfMemory}
 use Rattle.epic_text.specs.RunScript.{run_rule}
 use Rattle.epic_app.specs.declared.run_files.TheConstants.{TOPOLOGY_LIMIT, SCRIPT_LIMIT}
-use Rattle.epic_app.specs.RunReport.{run, has_alarm, VerdictsHold}
+use Rattle.epic_world.specs.Run.{run}
+use Rattle.epic_app.specs.RunReport.{has_alarm}
+use Rattle.epic_world.specs.Laws.{VerdictsHold}
 use Rattle.epic_app.specs.declared.hop_file.HopCommand.{HopCommand}
 use Rattle.epic_text.specs.Script.{Fault, commands_of}
 use Rattle.epic_app.specs.HopFile.{hop_rule}

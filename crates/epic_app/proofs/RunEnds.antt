@@ -19,7 +19,8 @@ use Rattle.epic_text.specs.declared.script.ScriptKind.{ScriptKind}
 use Rattle.epic_app.specs.declared.run_files.TheConstants.{TOPOLOGY_LIMIT, SCRIPT_LIMIT}
 use Rattle.epic_app.specs.declared.end.End.{End}
 use Rattle.epic_app.specs.declared.end.End.TheVariants.{Done, BadWords, BadTopology, LongTopology, BadScript, LongScript, ReadFault, WriteFault, OutOfMemory}
-use Rattle.epic_app.specs.RunReport.{run, run_text, has_alarm}
+use Rattle.epic_world.specs.Run.{run}
+use Rattle.epic_app.specs.RunReport.{run_text, has_alarm}
 use Rattle.epic_app.specs.Request.{Request, Run, Contents, Ending, ending_of, report_of, run_ending, network_ending, script_ending, run_told, refused, no_topology, fault_line, too_long_line, topology_line, long_topology_line}
 use Rattle.epic_app.specs.Outcome.{World, AsTold, EndsByFiles, WriteFails, MemoryEnds, CountsStay}
 use Rattle.epic_app.specs.End.{EndsAs, HasCause, IsStatus}

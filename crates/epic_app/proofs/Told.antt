@@ -1,6 +1,6 @@
 -- The answers of steps can be told: the keys and tags that their lines show are of ASes of the topology.
 use Rattle.std.proofs.Common.{◌≡◌, ℕ, ◌+◌, ◌<◌, Bool, true, false, not, ltb, cond, zero, suc, ◌-◌, Contains, List, [], ◌∷◌, ◌++◌, length, slice_index, Option, Some, None, Result, Ok, Err, IsTrue, find, slice_get, refl, sym, ap, ◌∙◌, arith}
-use Rattle.std.specs.Prelude.{option_map, option_and_then, ⊤}
+use Rattle.std.specs.Prelude.{option_map, option_and_then, unwrap_or}
 use Rattle.std.specs.List.{All, list_any}
 use Rattle.std.proofs.lemmas.List.Elements.{All-cons, All-nil, filter_map-append}
 use Rattle.epic_num.specs.Chains.{Issue, issue_at, name_of}
@@ -9,13 +9,13 @@ use Rattle.epic_num.specs.declared.answer.Answer.{Answer}
 use Rattle.epic_num.specs.declared.answer.Answer.TheVariants as answer
 use Rattle.epic_num.specs.declared.beacon_error.BeaconError.{BeaconError}
 use Rattle.epic_num.specs.declared.answer.Refusal.{Refusal}
-use Rattle.epic_num.specs.declared.answer.Refusal.TheVariants.{UnknownAs}
+use Rattle.epic_num.specs.declared.answer.Refusal.TheVariants.{UnknownAs, TooManyPaths}
 use Rattle.epic_num.specs.declared.passed.PassResult.TheVariants.{Full}
 use Rattle.epic_num.specs.declared.path_ref.PathRef.{PathRef}
 use Rattle.epic_ledger.specs.Facts.{as_issue}
 use Rattle.epic_ledger.specs.declared.event.Event.TheVariants as event
 use Rattle.epic_text.specs.Report.{bytes_in}
-use Rattle.epic_app.specs.RunReport.{issued_in}
+use Rattle.epic_app.specs.RunReport.{issued_in, is_carried, ShowsBytes}
 use Rattle.epic_num.specs.declared.command.Command.{Command}
 use Rattle.epic_num.specs.declared.command.Command.TheVariants as command
 use Rattle.epic_num.specs.declared.hop.HopName.{HopName}
@@ -35,6 +35,7 @@ use Rattle.epic_beacon.specs.declared.beacon.Beacon.{Beacon}
 use Rattle.epic_beacon.specs.Issuing.{originated, extended}
 use Rattle.epic_fields.specs.HopChecks.{hop_name}
 use Rattle.epic_fields.specs.PacketTags.{field_name}
+use Rattle.epic_path.specs.Routes.{all_lawful}
 use Rattle.epic_router.specs.Accepted.{IsAccepted, IsRightTurn}
 use Rattle.epic_router.specs.Turns.{turn_of}
 use Rattle.epic_router.proofs.AcceptedLaws.{turns_are_right}
@@ -47,12 +48,12 @@ use Rattle.epic_audit.specs.ForgedText.{has_form, fits_level}
 use Rattle.epic_audit.specs.Kept.{Kept, PassesKept}
 use Rattle.epic_audit.specs.Verdicts.{hop_lines, hop_verdict, broken, broken_between, broken_chain, parent_name}
 use Rattle.epic_keys.specs.Keys.{owner}
-use Rattle.epic_text.specs.Report.{IsToldAnswer, IsToldPass}
+use Rattle.epic_text.specs.Report.{IsToldAnswer, Shows, issued_name, no_name}
 use Rattle.epic_text.specs.VerdictText.{IsTellable}
-use Rattle.epic_world.specs.State.{State, store_in, generation_in}
+use Rattle.epic_world.specs.State.{State, store_in, generation_in, is_known_in, segments_in}
 use Rattle.epic_world.specs.Stepped.{answered, refused, recorded}
 use Rattle.epic_world.specs.Turning.{passed, turned_at, turned_by, accepted_at}
-use Rattle.epic_world.specs.Next.{next, next_at, next_originate, next_extend, next_fetch, next_paths, next_turn, issued, is_taken}
+use Rattle.epic_world.specs.Next.{next, next_at, next_originate, next_extend, next_fetch, next_paths, next_turn, issued, most_paths, is_taken}
 
 -- ---- verdicts
 
@@ -248,16 +249,53 @@ next_turn_told t s issues a iface bytes kept = rw (next_turn_none t s issues a i
 pub told : (t : Network) (s : State) (c : Command) (emissions : ℕ → List ℕ) → Kept t (facts_of s.history) → Kept t (facts_of (next t s c).state.history)
     → is_taken c ≡ true
     → IsToldAnswer t (issued_in (issues_in (next t s c).state.history.events) (next t s c).answer) (bytes_in emissions c) (next t s c).answer
-unfolding next next_originate next_extend next_fetch next_paths is_taken bytes_in issued_in facts_of
+unfolding next next_at next_originate next_extend next_fetch next_paths is_taken bytes_in issued_in facts_of
 told t s (command.At moment) emissions before after taken = tt
 told t s (command.Originate a out exp) emissions before after taken = issued_told t s (not (has t a)) (UnknownAs a) (originated t (store_in t s.history.events) a out exp s.moment) [] after.issues
 told t s (command.Extend parent out exp) emissions before after taken = issue_told t s (extended t (store_in t s.history.events) parent out exp s.moment) [] after.issues
-told t s (command.Fetch source owner epoch) emissions before after taken = fetched_told t s _ [] _ _ _ _ _ _
-told t s (command.Paths from to) emissions before after taken = found_told t s _ [] _ _ _ _ _ _ _
-told t s (command.Turn a iface bytes) emissions before after taken = next_turn_told t s _ a iface bytes before
+told t s (command.Fetch source of epoch) emissions before after taken =
+    fetched_told t s (issues_in (next_fetch t s source of epoch).state.history.events) []
+    (not (has t source)) (not (has t of)) (is_known_in s.history.events (record { source = source; owner = of; epoch = epoch }))
+    (UnknownAs source) (UnknownAs of) (event.Fetch (s.steps + 1) source of epoch)
+told t s (command.Paths from to) emissions before after taken =
+    let paths = all_lawful (segments_in t (issues_in s.history.events)) from to in
+    found_told t s (issues_in (next_paths t s from to).state.history.events) []
+    (not (has t from)) (not (has t to)) (ltb most_paths (length paths)) (UnknownAs from) (UnknownAs to) TooManyPaths paths
+told t s (command.Turn a iface bytes) emissions before after taken = next_turn_told t s (issues_in (next_turn t s a iface bytes).state.history.events) a iface bytes before
 told t s (command.Send version level src dst segments payload) emissions before after taken = absurd (cc)
 told t s (command.Arrive host bytes) emissions before after taken = absurd (cc)
 told t s (command.Pass emission) emissions before after taken = absurd (cc)
 told t s (command.Carry emission) emissions before after taken = absurd (cc)
 told t s (command.Reveal holder) emissions before after taken = absurd (cc)
 told t s (command.Roll a) emissions before after taken = absurd (cc)
+
+-- an answer that can be told is of one packet at most
+pub told_alone : (t : Network) (issued : Option HopName) (came : List ℕ) (a : Answer) → IsToldAnswer t issued came a → is_carried a ≡ false
+told_alone t issued came answer.Moment told = refl
+told_alone t issued came (answer.Issued number) told = refl
+told_alone t issued came answer.Fetched told = refl
+told_alone t issued came answer.Known told = refl
+told_alone t issued came (answer.Paths paths) told = refl
+told_alone t issued came (answer.Sent emission ts) told = refl
+told_alone t issued came (answer.Passed passed) told = refl
+told_alone t None came (answer.Carried passes) told = absurd told
+told_alone t (Some x) came (answer.Carried passes) told = absurd told
+told_alone t issued came answer.Revealed told = refl
+told_alone t issued came (answer.Rolled generation) told = refl
+told_alone t issued came (answer.Refused refusal) told = refl
+
+-- what a step shows besides its answer
+pub shows : (issues : List Issue) (emissions : ℕ → List ℕ) (o : Option HopName) (emitted : List ℕ) (a : Answer) → o ≡ issued_in issues a
+    → ShowsBytes emissions emitted a → is_carried a ≡ false → Shows (issued_name issues) emissions o emitted a
+unfolding issued_name issued_in
+shows issues emissions o emitted answer.Moment is bytes alone = tt
+shows issues emissions o emitted (answer.Issued number) is bytes alone = ap (λ x. unwrap_or x no_name) (sym is)
+shows issues emissions o emitted answer.Fetched is bytes alone = tt
+shows issues emissions o emitted answer.Known is bytes alone = tt
+shows issues emissions o emitted (answer.Paths paths) is bytes alone = tt
+shows issues emissions o emitted (answer.Sent emission ts) is bytes alone = bytes
+shows issues emissions o emitted (answer.Passed passed) is bytes alone = bytes
+shows issues emissions o emitted (answer.Carried passes) is bytes alone = absurd (cc)
+shows issues emissions o emitted answer.Revealed is bytes alone = tt
+shows issues emissions o emitted (answer.Rolled generation) is bytes alone = tt
+shows issues emissions o emitted (answer.Refused refusal) is bytes alone = tt

@@ -1,9 +1,9 @@
 -- The report of a run: the lines of its steps in order, and the counts of its verdicts.
-use Rattle.std.specs.Prelude.{ℕ, ◌||◌, Bool, List, [], ◌∷◌, ◌++◌, length, flat_map, Option, None}
+use Rattle.std.specs.Prelude.{◌≡◌, ℕ, ◌||◌, Bool, true, false, List, [], ◌∷◌, ◌++◌, length, flat_map, Option, None, ⊤}
 use Rattle.std.specs.List.{list_any}
 use Rattle.std.specs.Option.{option_map_or}
 use Rattle.epic_num.specs.declared.answer.Answer.{Answer}
-use Rattle.epic_num.specs.declared.answer.Answer.TheVariants.{Issued, Passed, Carried}
+use Rattle.epic_num.specs.declared.answer.Answer.TheVariants.{Issued, Sent, Passed, Carried}
 use Rattle.epic_num.specs.declared.command.Command.{Command}
 use Rattle.epic_num.specs.declared.hop.HopName.{HopName}
 use Rattle.epic_num.specs.declared.verdict.Verdict.{Verdict}
@@ -26,6 +26,12 @@ unfoldable pub issued_in : List Issue → Answer → Option HopName
 issued_in issues (Issued number) = name_of issues number
 issued_in issues answer = None
 
+-- the bytes are those of the emission that an answer tells of
+abbrev pub ShowsBytes : (ℕ → List ℕ) → List ℕ → Answer → Type 0
+ShowsBytes emissions bytes (Sent emission ts) = emissions emission ≡ bytes
+ShowsBytes emissions bytes (Passed pass) = emissions pass.emission ≡ bytes
+ShowsBytes emissions bytes answer = ⊤
+
 -- the lines of an answer, over what was issued and emitted by then
 unfoldable pub answered_text : Network → Command → Answer → State → List ℕ
 answered_text t command answer after =
@@ -46,7 +52,12 @@ verdicts_in (Passed pass) = pass.verdicts.items
 verdicts_in (Carried passes) = flat_map (λ pass. pass.verdicts.items) passes
 verdicts_in answer = []
 
--- those of all steps
+-- the answer is of an emission that was carried on
+abbrev pub is_carried : Answer → Bool
+is_carried (Carried passes) = true
+is_carried answer = false
+
+-- the verdicts of all steps
 unfoldable pub all_verdicts : List Done → List Verdict
 all_verdicts steps = flat_map (λ d. verdicts_in d.answer) steps
 

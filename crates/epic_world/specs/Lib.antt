@@ -1,3 +1,4 @@
+pub mod Laws
 pub mod Next
 pub mod Refining
 pub mod Run

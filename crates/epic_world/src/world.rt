@@ -13,8 +13,10 @@ use epic_topo::Topology;
 use std::alloc::Global;
 use std::marker::Model;
 
+#[derive(Drop)]
 pub struct World {
     topo: Topology,
+    steps: u32,
     ledger: Ledger,
 }
 
@@ -25,7 +27,7 @@ impl Model for World {
 
     ghost Value = { Standing };
 
-    ghost view = { λ w. record { network = w.topo; state = record { moment = 0; steps = 0; history = w.ledger.history } } };
+    ghost view = { λ w. record { network = w.topo; state = record { moment = 0; steps = w.steps; history = w.ledger.history } } };
 
     ghost invariant = { λ w. Kept w.topo (facts_of w.ledger.history) };
 }
@@ -38,6 +40,7 @@ impl World {
         ledgers();
         World {
             topo,
+            steps: 0,
             ledger: Ledger::new(alloc),
         }
     }
@@ -45,7 +48,7 @@ impl World {
     pub fn steps(&self) -> u32
         ensures { result ≡ self.now.state.steps }
     {
-        0
+        self.steps
     }
 
     pub fn topology(&self) -> &Topology
