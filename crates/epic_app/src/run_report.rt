@@ -1,6 +1,6 @@
 //! The report of a run, step by step.
 
-ghost use Rattle.std.specs.Prelude.{ℕ, List, false, ◌≡◌, ◌+◌, ◌-◌, ◌^◌, ◌<◌, ◌≤◌, All, IsTrue, IfOk, OnOk, OnErr, length};
+ghost use Rattle.std.specs.Prelude.{ℕ, List, false, ◌≡◌, ◌+◌, ◌-◌, ◌^◌, ◌<◌, ◌≤◌, All, IsTrue, IfOk, OnOk, OnErr, length, nat_lt, ◌||◌};
 ghost use Rattle.epic_ports.specs.Written.{Appends, AppendsFront};
 ghost use Rattle.epic_audit.specs.Kept.{Kept};
 ghost use Rattle.epic_ledger.specs.Facts.{facts_of, issues_in};
@@ -193,6 +193,13 @@ fn write_end<O: Sink>(alloc: Global, counts: &Counts, out: &mut O) -> Result<(),
     }
 }
 
+/// Whether some verdict is forged or collided.
+fn tells_alarm(counts: &Counts) -> bool
+    ensures { result ≡ (nat_lt 0 counts.now.forged || nat_lt 0 counts.now.collided) }
+{
+    counts.forged > 0 || counts.collided > 0
+}
+
 /// Does the commands one after the other over a topology, and writes the lines of each before the next is done.
 ///
 /// Answers whether some verdict is forged or collided. `PortError::Failed` comes only where `out` counted a failed write.
@@ -222,5 +229,5 @@ pub fn write_run<O: Sink>(
         ..counts
     };
     write_end(alloc, &counts, out)?;
-    Ok(counts.forged > 0 || counts.collided > 0)
+    Ok(tells_alarm(&counts))
 }
