@@ -1,0 +1,9 @@
+pub mod Clauses
+pub mod Collided
+pub mod Forged
+pub mod Holds
+pub mod Kept
+pub mod Laws
+pub mod Made
+pub mod Reveals
+pub mod Verdicts

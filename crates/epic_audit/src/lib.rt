@@ -1,0 +1,6 @@
+//! What the ledger says of each acceptance: the verdicts, and why they hold.
+#![tactic(auto)]
+
+mod laws;
+
+pub use laws::{dest_verdicts, hop_verdicts};
