@@ -10,10 +10,10 @@ use Rattle.epic_ports.specs.Written.{Appends, AppendsFront}
 use Rattle.epic_ports.specs.declared.error.ReadError.TheVariants.{TooLong}
 use Rattle.epic_app.specs.declared.hop.TheConstants.{FILE_LIMIT}
 use Rattle.epic_app.specs.declared.hop_file.HopCommand.{HopCommand}
-use Rattle.epic_app.specs.declared.script.ScriptKind.{ScriptKind}
+use Rattle.epic_text.specs.declared.script.ScriptKind.{ScriptKind}
 use Rattle.epic_app.specs.declared.end.End.{End}
 use Rattle.epic_app.specs.declared.end.End.TheVariants.{Done, BadWords, BadScript, LongScript, ReadFault, WriteFault, OutOfMemory}
-use Rattle.epic_app.specs.Script.{Fault, commands_of}
+use Rattle.epic_text.specs.Script.{Fault, commands_of}
 use Rattle.epic_app.specs.HopFile.{hop_rule}
 use Rattle.epic_app.specs.HopReport.{answers, is_forged, report_text}
 use Rattle.epic_app.specs.Request.{Request, Hop, Ending, ending_of, report_of, hop_ending, hop_told, refused, fault_line, too_long_line}

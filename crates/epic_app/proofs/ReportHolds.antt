@@ -5,7 +5,7 @@ use Rattle.std.specs.Option.{option_map}
 use Rattle.std.proofs.lemmas.Bool.Decides.{nat_tests}
 use Rattle.std.proofs.lemmas.List.Sums.{sum_by-cons}
 use Rattle.epic_app.specs.declared.hop_file.HopCommand.{HopCommand}
-use Rattle.epic_app.specs.Script.{Fault, commands_of}
+use Rattle.epic_text.specs.Script.{Fault, commands_of}
 use Rattle.epic_app.specs.HopFile.{hop_rule}
 use Rattle.epic_app.specs.HopReport.{answers, is_forged}
 use Rattle.epic_app.specs.Request.{Request, Hop, Ending, hop_ending, hop_told, refused, too_long_line}

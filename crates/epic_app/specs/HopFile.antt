@@ -4,8 +4,8 @@ use Rattle.hex.specs.Hex.{decode_sized}
 use Rattle.hex.specs.declared.error.FromHexError.{FromHexError}
 use Rattle.epic_app.specs.declared.hop_file.HopCommand.{HopCommand}
 use Rattle.epic_app.specs.declared.hop_file.HopCommand.TheVariants.{Issue, Check}
-use Rattle.epic_app.specs.declared.script.ScriptKind.{ScriptKind}
-use Rattle.epic_app.specs.declared.script.ScriptKind.TheVariants.{UnknownVerb, WordCount, BadWord}
+use Rattle.epic_text.specs.declared.script.ScriptKind.{ScriptKind}
+use Rattle.epic_text.specs.declared.script.ScriptKind.TheVariants.{UnknownVerb, WordCount, BadWord}
 use Rattle.epic_app.specs.Spelling.{body_of}
 
 -- what follows the bytes of a word, which is refused where it doesn't spell them

@@ -1,9 +1,7 @@
 pub mod End
 pub mod HopFile
 pub mod HopReport
-pub mod Lines
 pub mod Outcome
 pub mod Request
-pub mod Script
 pub mod Spelling
 pub mod Writing

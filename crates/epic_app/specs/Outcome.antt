@@ -6,7 +6,7 @@ use Rattle.epic_ports.specs.Files.{Files}
 use Rattle.epic_ports.specs.Written.{Appends, AppendsFront}
 use Rattle.epic_app.specs.declared.hop_file.HopCommand.{HopCommand}
 use Rattle.epic_app.specs.declared.hop_answer.HopAnswer.{HopAnswer}
-use Rattle.epic_app.specs.Script.{commands_of}
+use Rattle.epic_text.specs.Script.{commands_of}
 use Rattle.epic_app.specs.HopFile.{hop_rule}
 use Rattle.epic_app.specs.HopReport.{◌⊕◌, AllHold, is_forged, report_text}
 use Rattle.epic_app.specs.Request.{Request, Hop, request_of, reads_of, writes_of, statuses_of, Ending, ending_of, report_of}

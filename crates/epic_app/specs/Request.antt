@@ -7,9 +7,9 @@ use Rattle.hex.specs.declared.error.FromHexError.{FromHexError}
 use Rattle.epic_ports.specs.Files.{Files}
 use Rattle.epic_app.specs.declared.hop.TheConstants.{FILE_LIMIT}
 use Rattle.epic_app.specs.declared.hop_file.HopCommand.{HopCommand}
-use Rattle.epic_app.specs.declared.script.ScriptKind.{ScriptKind}
-use Rattle.epic_app.specs.declared.script.ScriptKind.TheVariants.{NotText, UnknownVerb, WordCount, BadWord, TooMany}
-use Rattle.epic_app.specs.Script.{Fault, commands_of}
+use Rattle.epic_text.specs.declared.script.ScriptKind.{ScriptKind}
+use Rattle.epic_text.specs.declared.script.ScriptKind.TheVariants.{NotText, UnknownVerb, WordCount, BadWord, TooMany}
+use Rattle.epic_text.specs.Script.{Fault, commands_of}
 use Rattle.epic_app.specs.HopFile.{hop_rule}
 use Rattle.epic_app.specs.HopReport.{◌⊕◌, answers, hop_report, is_forged}
 

@@ -3,13 +3,13 @@
 ghost use Rattle.std.specs.Prelude.{◌≡◌, ◌≤◌, flat_map, OnOk, OnErr};
 ghost use Rattle.epic_ports.specs.Faults.{FailsOnlyBy};
 ghost use Rattle.epic_ports.specs.Written.{Appends, AppendsFront};
-ghost use Rattle.epic_app.specs.declared.script.ScriptKind.TheVariants.{BadWord};
+ghost use Rattle.epic_text.specs.declared.script.ScriptKind.TheVariants.{BadWord};
 ghost use Rattle.epic_app.specs.End.{line_of, status_of};
 ghost use Rattle.epic_app.specs.Outcome.{Tells, error_sink};
 ghost use Rattle.epic_app.specs.Request.{fault_line, named_line};
 
-use crate::script::ScriptKind;
 use epic_ports::{PortError, Sink, write_all};
+use epic_text::ScriptKind;
 use itoa::Buffer;
 
 /// How a command ended.

@@ -7,8 +7,8 @@ ghost use Rattle.epic_app.specs.Request.{Hop};
 use crate::end::End;
 use crate::hop_file::HopCommand;
 use crate::hop_report::write_report;
-use crate::script::{ScriptError, read_script};
 use epic_ports::{PortError, ReadError, Sink, Store, read_whole};
+use epic_text::{ScriptError, read_script};
 use std::alloc::Global;
 
 /// The greatest length of its file, in bytes.

@@ -3,12 +3,12 @@
 ghost use Rattle.std.specs.Prelude.{◌≡◌, map, Ok};
 ghost use Rattle.hex.specs.Hex.{decode_sized};
 ghost use Rattle.epic_app.specs.HopFile.{check_of, hop_rule, issue_of, on_bytes};
-ghost use Rattle.epic_app.specs.Script.{IsByRule};
+ghost use Rattle.epic_text.specs.Script.{IsByRule};
 ghost use Rattle.epic_app.specs.Spelling.{body_of};
 
-use crate::script::{FromWords, ScriptKind, WordsError};
 use crate::spelling::body_from_bytes;
 use epic_num::Body;
+use epic_text::{FromWords, ScriptKind, WordsError};
 use hex::FromHex;
 use std::alloc::Global;
 

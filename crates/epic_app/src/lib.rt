@@ -6,8 +6,6 @@ mod hop;
 mod hop_answer;
 mod hop_file;
 mod hop_report;
-mod lines;
-mod script;
 mod spelling;
 mod top;
 mod words;

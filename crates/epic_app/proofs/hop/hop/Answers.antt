@@ -1,7 +1,7 @@
 use Rattle.std.proofs.Common.{◌≡◌, ◌≤◌, length, Ok, Err, arith, rules}
 use Rattle.epic_ports.proofs.Appended.{Appends-none}
 use Rattle.epic_app.specs.declared.hop.TheConstants.{FILE_LIMIT}
-use Rattle.epic_app.specs.Script.{commands_of}
+use Rattle.epic_text.specs.Script.{commands_of}
 use Rattle.epic_app.specs.HopFile.{hop_rule}
 use Rattle.epic_app.proofs.HopEnds.{Read, read, read_long, ends, long_script, bad_script, done, write_fails, memory_ends, memory_first}
 use Rattle.epic_app.proofs.hop.hop.Goals as goal

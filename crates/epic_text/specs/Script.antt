@@ -1,16 +1,20 @@
 -- The commands of a script, or its first fault. A rule takes the first word of a line and the words after it to a
 -- command or a fault.
-use Rattle.std.specs.Prelude.{◌≡◌, ℕ, ◌+◌, ◌==◌, nat_lt, slice_index, Bool, if◌then◌else◌, List, [], ◌∷◌, ◌++◌, Option, Some, None, Result, Ok, Err, ⊤}
+use Rattle.std.specs.Prelude.{◌≡◌, ℕ, ◌+◌, ◌^◌, ◌<◌, ◌==◌, nat_lt, slice_index, length, Bool, if◌then◌else◌, List, [], ◌∷◌, ◌++◌, Option, Some, None, Result, Ok, Err, ⊤}
 use Rattle.std.specs.Global.{Vec}
 use Rattle.std.specs.List.{list_all}
-use Rattle.epic_app.specs.Lines.{is_text_byte, lines, words}
-use Rattle.epic_app.specs.declared.script.TheConstants.{MAX_COMMANDS}
-use Rattle.epic_app.specs.declared.script.ScriptKind.{ScriptKind}
-use Rattle.epic_app.specs.declared.script.ScriptKind.TheVariants.{NotText, TooMany}
-use Rattle.epic_app.specs.declared.script.ScriptError.{ScriptError}
-use Rattle.epic_app.specs.declared.script.ScriptError.TheVariants as script_error
-use Rattle.epic_app.specs.declared.script.WordsError.{WordsError}
-use Rattle.epic_app.specs.declared.script.WordsError.TheVariants as words_error
+use Rattle.epic_text.specs.Lines.{is_text_byte, lines, words}
+use Rattle.epic_text.specs.declared.script.TheConstants.{MAX_COMMANDS}
+use Rattle.epic_text.specs.declared.script.ScriptKind.{ScriptKind}
+use Rattle.epic_text.specs.declared.script.ScriptKind.TheVariants.{NotText, TooMany}
+use Rattle.epic_text.specs.declared.script.ScriptError.{ScriptError}
+use Rattle.epic_text.specs.declared.script.ScriptError.TheVariants as script_error
+use Rattle.epic_text.specs.declared.script.WordsError.{WordsError}
+use Rattle.epic_text.specs.declared.script.WordsError.TheVariants as words_error
+
+-- a text whose bytes can be counted in 32 bits
+abbrev pub IsShort : List ℕ → Type 0
+IsShort text = length text < 2 ^ 32
 
 abbrev pub Rule : Type 0 → Type 0
 Rule C = List ℕ → List (List ℕ) → Result C ScriptKind

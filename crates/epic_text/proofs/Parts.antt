@@ -5,7 +5,7 @@ use Rattle.std.proofs.lemmas.List.Quantifiers.{position-Some}
 use Rattle.std.proofs.lemmas.List.Sums.{position_or_len_is, fails_before_first}
 use Rattle.std.proofs.lemmas.List.Splits.{slice_split_first, slice_split_none, length-slice_split}
 use Rattle.std.specs.List.{slice_split, position, position_or_len, All}
-use Rattle.epic_app.specs.Lines.{is_line_feed, without_empty_last, parts}
+use Rattle.epic_text.specs.Lines.{is_line_feed, without_empty_last, parts}
 
 without_empty_last-cons : (part : List ℕ) (more : List (List ℕ)) → 0 < length more →
     without_empty_last (part ∷ more) ≡ part ∷ without_empty_last more

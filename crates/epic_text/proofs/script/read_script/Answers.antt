@@ -1,8 +1,8 @@
 use Rattle.std.proofs.Common.{◌≡◌, ◌+◌, ◌<◌, length, Some, Ok, ap, ◌∙◌, arith, rules, length-append, ◌++◌, ◌∷◌, []}
-use Rattle.epic_app.specs.Script.{commands_after, with_front, line_command}
-use Rattle.epic_app.specs.declared.script.TheConstants.{MAX_COMMANDS}
-use Rattle.epic_app.proofs.Commands.{one_more, at_first}
-use Rattle.epic_app.proofs.script.read_script.Goals as goal
+use Rattle.epic_text.specs.Script.{commands_after, with_front, line_command}
+use Rattle.epic_text.specs.declared.script.TheConstants.{MAX_COMMANDS}
+use Rattle.epic_text.proofs.Commands.{one_more, at_first}
+use Rattle.epic_text.proofs.script.read_script.Goals as goal
 
 pub loop-rest-preserved : goal.loop-rest-preserved
 loop-rest-preserved g c =

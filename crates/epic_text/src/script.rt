@@ -1,10 +1,11 @@
 //! The commands of a script: one a line, but for comments and lines without words.
 
 ghost use Rattle.std.specs.Prelude.{◌≡◌, ◌^◌, ◌<◌, ◌≤◌, ℕ, length, map, vec_len, List, Option, Result, IfOk};
-ghost use Rattle.epic_app.specs.Script.{IsByRule, IsScript, line_command, commands_of};
-ghost use Rattle.epic_app.specs.declared.script.ScriptKind.{ScriptKind};
-ghost use Rattle.epic_app.specs.declared.script.ScriptError.TheVariants as script_error;
-ghost use Rattle.epic_app.specs.declared.script.WordsError.TheVariants as words_error;
+ghost use Rattle.std.specs.List.{All};
+ghost use Rattle.epic_text.specs.Script.{IsByRule, IsScript, IsShort, line_command, commands_of};
+ghost use Rattle.epic_text.specs.declared.script.ScriptKind.{ScriptKind};
+ghost use Rattle.epic_text.specs.declared.script.ScriptError.TheVariants as script_error;
+ghost use Rattle.epic_text.specs.declared.script.WordsError.TheVariants as words_error;
 
 use crate::lines::{first_line, is_text, words};
 use std::alloc::{AllocError, AllocFailed, Global};
@@ -72,11 +73,13 @@ pub trait FromWords: Drop {
 
     /// The command of the first word of a line and the words after it.
     fn from_words(alloc: Global, verb: &[u8], arguments: &[&[u8]]) -> Result<Self, WordsError>
+        requires { All (λ word. IsShort word.now) arguments.now }
         ensures { IsByRule (rule verb.now (map (λ word. word.now) arguments.now)) result };
 }
 
 /// The command of a line, if it has one.
 fn read_line<C: FromWords>(alloc: Global, line: &[u8]) -> Result<Option<C>, WordsError>
+    requires { IsShort line.now }
     ensures { IsByRule (line_command C.rule line.now) result }
 {
     if !is_text(line) {
@@ -93,7 +96,7 @@ fn read_line<C: FromWords>(alloc: Global, line: &[u8]) -> Result<Option<C>, Word
 ///
 /// `ScriptError::Bad` tells the first line that is refused.
 pub fn read_script<C: FromWords>(alloc: Global, text: &[u8]) -> Result<Vec<C>, ScriptError>
-    requires { length text.now < 2 ^ 32 }
+    requires { IsShort text.now }
     ensures value { IsScript (commands_of C.rule text.now) result }
     ensures few { IfOk result (λ commands. vec_len commands ≤ MAX_COMMANDS) }
 {

@@ -1,11 +1,11 @@
 -- How the commands of a text come together line by line.
 use Rattle.std.proofs.Common.{◌≡◌, ℕ, ◌+◌, ◌<◌, ltb, cond, Option, Result, Ok, Err, List, [], ◌∷◌, ◌++◌, length, refl, ap, sym, ◌∙◌, arith, append_assoc, length-append}
 use Rattle.std.proofs.lemmas.Bool.Decides.{nat_tests}
-use Rattle.epic_app.specs.declared.script.TheConstants.{MAX_COMMANDS}
-use Rattle.epic_app.specs.declared.script.ScriptKind.{ScriptKind}
-use Rattle.epic_app.specs.declared.script.ScriptKind.TheVariants.{TooMany}
-use Rattle.epic_app.specs.Lines.{lines}
-use Rattle.epic_app.specs.Script.{Rule, Fault, line_command, at_line, numbered, with_front, commands_after}
+use Rattle.epic_text.specs.declared.script.TheConstants.{MAX_COMMANDS}
+use Rattle.epic_text.specs.declared.script.ScriptKind.{ScriptKind}
+use Rattle.epic_text.specs.declared.script.ScriptKind.TheVariants.{TooMany}
+use Rattle.epic_text.specs.Lines.{lines}
+use Rattle.epic_text.specs.Script.{Rule, Fault, line_command, at_line, numbered, with_front, commands_after}
 
 with_front-with_front : {C : Type 0} (front : List C) (command : C) (r : Result (List C) Fault) →
     with_front front (with_front (command ∷ []) r) ≡ with_front (front ++ command ∷ []) r

@@ -1,9 +1,9 @@
 //! A text in lines, and a line in words.
 
-ghost use Rattle.std.specs.Prelude.{◌≡◌, ◌<◌, ◌∷◌, length, map, position, IfOk};
-ghost use Rattle.std.specs.List.{list_all};
+ghost use Rattle.std.specs.Prelude.{◌≡◌, ◌<◌, ◌≤◌, ◌∷◌, length, map, position, IfOk};
+ghost use Rattle.std.specs.List.{All, list_all};
 ghost use Rattle.std.specs.Str.Lines.{strip_carriage_return};
-ghost use Rattle.epic_app.specs.Lines.{is_blank, is_line_feed, is_text_byte, lines, parts, words};
+ghost use Rattle.epic_text.specs.Lines.{is_blank, is_line_feed, is_text_byte, lines, parts, words};
 
 use std::alloc::{AllocError, Global};
 
@@ -30,7 +30,8 @@ pub fn is_text(line: &[u8]) -> bool
 
 /// The words of `line`.
 pub fn words<'a>(alloc: Global, line: &'a [u8]) -> Result<Vec<&'a [u8]>, AllocError>
-    ensures { IfOk result (λ v. map (λ word. word.now) v.items ≡ words line.entry.now) }
+    ensures value { IfOk result (λ v. map (λ word. word.now) v.items ≡ words line.entry.now) }
+    ensures within { IfOk result (λ v. All (λ word. length word.now ≤ length line.entry.now) v.items) }
 {
     line.split(|&byte| is_blank(byte))
         .filter(|word| !word.is_empty())
@@ -49,6 +50,7 @@ fn line_end(text: &[u8]) -> Option<usize>
 fn split_line(text: &[u8]) -> (&[u8], &[u8])
     requires { 0 < length text.now }
     ensures parts { parts text.now ≡ result.0.now ∷ parts result.1.now }
+    ensures within { length result.0.now ≤ length text.now }
     ensures shorter { length result.1.now < length text.now }
 {
     match line_end(text) {
@@ -59,7 +61,8 @@ fn split_line(text: &[u8]) -> (&[u8], &[u8])
 
 /// `line` without the one carriage return at its end, if it has one.
 fn without_return(line: &[u8]) -> &[u8]
-    ensures { result.now ≡ strip_carriage_return line.now }
+    ensures value { result.now ≡ strip_carriage_return line.now }
+    ensures within { length result.now ≤ length line.now }
 {
     match line {
         [front @ .., b'\r'] => front,
@@ -71,6 +74,7 @@ fn without_return(line: &[u8]) -> &[u8]
 pub fn first_line(text: &[u8]) -> (&[u8], &[u8])
     requires { 0 < length text.now }
     ensures lines { lines text.now ≡ result.0.now ∷ lines result.1.now }
+    ensures within { length result.0.now ≤ length text.now }
     ensures shorter { length result.1.now < length text.now }
 {
     let (line, rest) = split_line(text);

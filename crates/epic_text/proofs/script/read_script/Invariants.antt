@@ -1,8 +1,8 @@
 use Rattle.std.proofs.Common.{◌≡◌, length, ◌+◌, ◌≤◌}
-use Rattle.epic_app.specs.Lines.{lines}
-use Rattle.epic_app.specs.Script.{commands_of, commands_after, numbered, with_front}
-use Rattle.epic_app.specs.declared.script.TheConstants.{MAX_COMMANDS}
-use Rattle.epic_app.proofs.script.read_script.Given as goal
+use Rattle.epic_text.specs.Lines.{lines}
+use Rattle.epic_text.specs.Script.{commands_of, commands_after, numbered, with_front}
+use Rattle.epic_text.specs.declared.script.TheConstants.{MAX_COMMANDS}
+use Rattle.epic_text.proofs.script.read_script.Given as goal
 
 -- the commands found, and those of the rest of the text, are all commands
 abbrev pub invariant-loop-rest : goal.invariant-loop-rest

@@ -1,7 +1,7 @@
 use Rattle.std.proofs.Common.{sym, ◌∙◌}
 use Rattle.std.proofs.lemmas.List.{take_rest}
-use Rattle.epic_app.proofs.Parts.{parts_some, parts_none}
-use Rattle.epic_app.proofs.lines.split_line.Goals as goal
+use Rattle.epic_text.proofs.Parts.{parts_some, parts_none}
+use Rattle.epic_text.proofs.lines.split_line.Goals as goal
 
 pub returns-in-Some-clause-parts : goal.returns-in-Some-clause-parts
 returns-in-Some-clause-parts c =
