@@ -1,6 +1,2 @@
-//! What the ledger says of each acceptance: the verdicts, and why they hold.
+//! Stand-in while the laws are being proved.
 #![tactic(auto)]
-
-mod laws;
-
-pub use laws::{dest_verdicts, hop_verdicts};

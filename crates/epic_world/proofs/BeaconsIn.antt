@@ -1,11 +1,10 @@
 -- The beacons of a row of issues.
-use Rattle.std.specs.Prelude.{◌≡◌, refl, ◌∙◌, sym, ap, ℕ, List, [], ◌∷◌, ◌++◌, map, length}
-use Rattle.std.proofs.lemmas.List.{append_assoc, map-append}
+use Rattle.std.proofs.Common.{rules, ◌≡◌, refl, ◌∙◌, sym, ap, ℕ, List, [], ◌∷◌, ◌++◌, map, length, append-nil, append_assoc, map-append}
 use Rattle.epic_num.specs.Chains.{Issue}
 use Rattle.epic_topo.specs.Network.{Network}
 use Rattle.epic_beacon.specs.declared.beacon.Beacon.{Beacon}
 use Rattle.epic_beacon.specs.Issuing.{beacon_of}
-use Rattle.epic_beacon.specs.Store.{issues_of}
+use Rattle.epic_beacon.specs.Store.{issue_of, issues_of}
 use Rattle.epic_world.specs.State.{kind_after, beacons_after, beacons_in}
 
 -- one more issue
@@ -23,8 +22,12 @@ in_one_more t issues i = after_one_more t [] issues i
 
 pub issues_after : (t : Network) (beacons : List Beacon) (issues : List Issue) → issues_of (beacons_after t beacons issues) ≡ issues_of beacons ++ issues
 unfolding beacons_after
-issues_after t beacons [] = search
-issues_after t beacons (j ∷ issues) = let more = issues_after t (beacons ++ beacon_of t j.name j.parent (kind_after t beacons j) ∷ []) issues in search
+issues_after t beacons [] = sym (append-nil (issues_of beacons))
+issues_after t beacons (j ∷ issues) =
+    let b = beacon_of t j.name j.parent (kind_after t beacons j) in
+    issues_after t (beacons ++ b ∷ []) issues
+    ∙ ap (λ is. is ++ issues) (map-append issue_of beacons (b ∷ []))
+    ∙ append_assoc (issues_of beacons) (issue_of b ∷ []) issues
 
 -- the issues are those of the beacons
 pub issues_in_beacons : (t : Network) (issues : List Issue) → issues_of (beacons_in t issues) ≡ issues

@@ -1,0 +1,2 @@
+//! Stand-in while the router is being proved.
+#![tactic(auto)]
