@@ -22,7 +22,7 @@ unfolding beacons_in
 in_one_more t issues i = after_one_more t [] issues i
 
 pub issues_after : (t : Network) (beacons : List Beacon) (issues : List Issue) → issues_of (beacons_after t beacons issues) ≡ issues_of beacons ++ issues
-unfolding beacons_after
+unfolding beacons_after kind_after beacon_of
 issues_after t beacons [] = sym (append-nil (issues_of beacons))
 issues_after t beacons (j ∷ issues) =
     let b = beacon_of t j.name j.parent (kind_after t beacons j) in
