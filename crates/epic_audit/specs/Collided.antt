@@ -1,9 +1,6 @@
 -- Two hops with one tag.
 use Rattle.std.specs.Prelude.{◌≡◌, ◌≢◌}
 use Rattle.epic_num.specs.declared.hop.HopName.{HopName}
-use Rattle.epic_num.specs.declared.verdict.Collision.{Collision}
-use Rattle.epic_num.specs.declared.verdict.Part.{Part}
-use Rattle.epic_num.specs.declared.verdict.Part.TheVariants.{Link, Sigma}
 use Rattle.epic_topo.specs.Network.{Network}
 use Rattle.epic_keys.specs.Tags.{sigma, link}
 

@@ -1,10 +1,9 @@
 -- What it means of any verdict, whoever gave it, that it is true of a hop or of a destination.
-use Rattle.std.specs.Prelude.{◌≡◌, ◌⊎◌, ℕ, Bool, true, false, List, [], ◌∷◌, Option, Some, option_map}
+use Rattle.std.specs.Prelude.{◌≡◌, ◌⊎◌, ℕ, true, false, [], ◌∷◌, Some, option_map}
 use Rattle.std.specs.Bool.{MatchBool}
 use Rattle.epic_num.specs.declared.hop.HopName.{HopName}
 use Rattle.epic_num.specs.declared.name.AsId.{AsId}
 use Rattle.epic_num.specs.declared.key_name.Holder.TheVariants.{As}
-use Rattle.epic_num.specs.declared.key_name.KeyName.{KeyName}
 use Rattle.epic_num.specs.declared.key_name.KeyName.TheVariants.{Fwd}
 use Rattle.epic_num.specs.declared.verdict.Collision.{Collision}
 use Rattle.epic_num.specs.declared.verdict.Forgery.{Forgery}
@@ -20,7 +19,7 @@ use Rattle.epic_layout.specs.Contents.{Contents}
 use Rattle.epic_topo.specs.Network.{Network}
 use Rattle.epic_fields.specs.HopChecks.{hop_name}
 use Rattle.epic_fields.specs.PacketTags.{field_name, dest_name}
-use Rattle.epic_ledger.specs.Facts.{Facts, Sent}
+use Rattle.epic_ledger.specs.Facts.{Facts}
 use Rattle.epic_ledger.specs.Queries.{issue_of}
 use Rattle.epic_audit.specs.Clauses.{is_level, IsIssued, IsChained, IsSourced, HopOk, sent_as, DestOk}
 use Rattle.epic_audit.specs.Collided.{HaveOneLink, HaveOneSigma}

@@ -3,7 +3,7 @@ use Rattle.std.specs.Prelude.{◌≡◌, ℕ, ◌<◌, true, List, All, Some, sl
 use Rattle.epic_num.specs.declared.hop.HopName.{HopName}
 use Rattle.epic_num.specs.Chains.{Issue, is_ended}
 use Rattle.epic_num.specs.Levels.{is_tagged}
-use Rattle.epic_layout.specs.Contents.{Contents, IsPacket, field, hop_count}
+use Rattle.epic_layout.specs.Contents.{IsPacket, field, hop_count}
 use Rattle.epic_layout.specs.Route.{place, is_first, is_last, ingress, egress, body}
 use Rattle.epic_topo.specs.Network.{Network, has}
 use Rattle.epic_keys.specs.Issues.{IssuesKept}

@@ -1,5 +1,5 @@
 -- What the verdicts are worth.
-use Rattle.std.specs.Prelude.{◌≡◌, ◌↔◌, ℕ, ◌<◌, true, false}
+use Rattle.std.specs.Prelude.{◌≡◌, ◌↔◌, ℕ, ◌<◌, true}
 use Rattle.epic_num.specs.declared.name.AsId.{AsId}
 use Rattle.epic_num.specs.Levels.{is_tagged}
 use Rattle.epic_layout.specs.Contents.{Contents, IsPacket, hop_count}

@@ -1,5 +1,6 @@
 pub mod Clauses
 pub mod Collided
+pub mod Events
 pub mod Forged
 pub mod Holds
 pub mod Kept

@@ -1,6 +1,6 @@
 -- What the holders of keys made: the messages of fields and destination fields that a source sent tags of, and those that
 -- routers gave out updates of.
-use Rattle.std.specs.Prelude.{◌≡◌, ℕ, true, List, [], map, take, slice_get, Option, Some}
+use Rattle.std.specs.Prelude.{◌≡◌, ℕ, true, List, [], map, take, slice_get, Some}
 use Rattle.std.specs.List.{range_with_len}
 use Rattle.std.specs.Option.{option_map_or}
 use Rattle.epic_num.specs.declared.hop.HopName.{HopName}

@@ -1,9 +1,8 @@
 -- The verdicts, each a table by what the ledger answers. The first line that fits decides; where a line doesn't look at an
 -- answer, a variable stands.
-use Rattle.std.specs.Prelude.{ℕ, ◌-◌, ◌&&◌, ◌||◌, ◌==◌, not, Bool, true, false, List, [], ◌∷◌, replicate, Option, Some, None, find, option_map, option_and_then, unwrap_or, bytes_eq, if◌then◌else◌}
+use Rattle.std.specs.Prelude.{ℕ, ◌-◌, ◌&&◌, ◌||◌, ◌==◌, not, Bool, true, false, List, replicate, Option, Some, None, find, option_map, option_and_then, unwrap_or, bytes_eq, if◌then◌else◌}
 use Rattle.std.specs.List.{list_any, range_with_len}
 use Rattle.std.specs.Option.{option_map_or}
-use Rattle.epic_num.specs.declared.hop.Body.{Body}
 use Rattle.epic_num.specs.declared.hop.HopName.{HopName}
 use Rattle.epic_num.specs.declared.key_name.Holder.TheVariants.{As, Host}
 use Rattle.epic_num.specs.declared.key_name.KeyName.{KeyName}
@@ -126,6 +125,10 @@ pub record Uncovered : Type 0 where
   pub hop : ℕ
   pub name : HopName
 
+-- hop i of a sent packet
+abbrev pub sent_hop : Facts → Sent → ℕ → Uncovered
+sent_hop f s i = record { hop = i; name = unwrap_or (sent_name f.issues s i) no_name }
+
 -- the AS of hop i was neither revealed nor accepted that hop
 unfoldable pub is_uncovered : Facts → Contents → Sent → ℕ → Bool
 is_uncovered f p s i =
@@ -138,9 +141,7 @@ is_uncovered f p s i =
 unfoldable pub uncovered_in : Facts → Contents → Sent → Option Uncovered
 uncovered_in f p s =
     if not (is_level 3 p.first) || (is_revealed f.reveals (Host p.src) || is_revealed f.reveals (As p.src.asn)) then None
-    else option_map
-    (λ i. record { hop = i; name = unwrap_or (sent_name f.issues s i) no_name })
-    (find (is_uncovered f p s) (range_with_len 0 (hop_count s.packet)))
+    else option_map (sent_hop f s) (find (is_uncovered f p s) (range_with_len 0 (hop_count s.packet)))
 
 unfoldable pub uncovered : Facts → Contents → Option Uncovered
 uncovered f p = option_and_then (uncovered_in f p) (sent_as f.sends p)
