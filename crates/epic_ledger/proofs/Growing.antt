@@ -1,18 +1,21 @@
 -- A lawful ledger stays lawful when an event that fits, or a packet, is added.
-use Rattle.std.proofs.Common.{◌≡◌, ℕ, zero, suc, ◌-◌, ◌≤◌, ◌<◌, ◌⊎◌, inl, inr, List, [], ◌∷◌, ◌++◌, length, take, refl, sym, ◌∙◌, ap, subst, arith}
+use Rattle.std.proofs.Common.{◌≡◌, ℕ, zero, suc, ◌-◌, ◌≤◌, ◌<◌, ◌⊎◌, inl, inr, List, [], ◌∷◌, ◌++◌, length, take, get_or, refl, sym, ◌∙◌, ap, subst, arith}
 use Rattle.std.specs.Prelude.{Option, Some, None, slice_get, IsSome, slice_index_or}
 use Rattle.std.specs.Option.{option_map_or}
 use Rattle.std.proofs.lemmas.List.{take_at, take-append-le}
 use Rattle.std.proofs.lemmas.List.Elements.{All-append, All-cons, All-nil}
-use Rattle.std.proofs.lemmas.Option.{same_Some}
+use Rattle.std.proofs.lemmas.Option.{same_Some, slice_get_read}
 use Rattle.std.proofs.Math.Dec.{eqb-suc-zero}
+use Rattle.arrayvec.specs.ArrayVec.{ArrayVec}
+use Rattle.epic_num.specs.declared.name.AsId.{AsId}
 use Rattle.epic_num.specs.Chains.{Issue}
+use Rattle.epic_num.specs.Levels.{is_first_byte}
 use Rattle.epic_layout.specs.Contents.{Contents, hop_count}
-use Rattle.epic_layout.specs.Layout.{parse}
+use Rattle.epic_layout.specs.Layout.{fault, parse}
 use Rattle.epic_layout.specs.Route.{no_segment}
 use Rattle.epic_ledger.specs.History.{Emission, emission_at, step_of}
 use Rattle.epic_ledger.specs.Facts.{issues_in, packet_at}
-use Rattle.epic_ledger.specs.Lawful.{IsEmission, Fits, IsLast, IsLawful}
+use Rattle.epic_ledger.specs.Lawful.{IsEmission, FitsPass, Fits, IsLast, IsLawful}
 use Rattle.epic_ledger.specs.declared.event.Event.{Event}
 use Rattle.epic_ledger.specs.declared.event.Event.TheVariants as event
 
@@ -107,3 +110,18 @@ lawful_emit events es x h spelled = record {
   fit = λ n e at. fits_more es (x ∷ []) (issues_in (take n events)) e (h.fit n e at);
   ascending = h.ascending;
 }
+
+-- what an event of a lawful ledger names is there
+fits_at : (events : List Event) (es : List Emission) (i : ℕ) (e : Event) → IsLawful (record { events = events; emissions = es }) → i < length events
+    → e ≡ get_or events i e → Fits es (issues_in (take i events)) e
+fits_at events es i e h in' is = h.fit i e (slice_get_read events (length events) i e refl in' is)
+
+pub sent_there : (events : List Event) (es : List Emission) (i : ℕ) (e : Event) (step emission : ℕ) (segments : ArrayVec ℕ) → IsLawful (record { events = events; emissions = es })
+    → i < length events → e ≡ get_or events i e → e ≡ event.Send step emission segments → IsSome (emission_at es emission)
+sent_there events es i e step emission segments h in' is send =
+    (subst (λ (x : Event). Fits es (issues_in (take i events)) x) send (fits_at events es i e h in' is)).there
+
+pub passed_there : (events : List Event) (es : List Emission) (i : ℕ) (e : Event) (step : ℕ) (a : AsId) (hop generation emission : ℕ) → IsLawful (record { events = events; emissions = es })
+    → i < length events → e ≡ get_or events i e → e ≡ event.Pass step a hop generation emission → FitsPass es emission hop
+passed_there events es i e step a hop generation emission h in' is pass =
+    subst (λ (x : Event). Fits es (issues_in (take i events)) x) pass (fits_at events es i e h in' is)
