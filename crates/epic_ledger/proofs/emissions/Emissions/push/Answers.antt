@@ -1,5 +1,5 @@
-use Rattle.epic_layout.specs.Contents.{IsBytes}
-use Rattle.std.proofs.Common.{rules, ◌≡◌, ◌≤◌, length, refl, sym, subst, arith}
+use Rattle.epic_layout.proofs.Cuts.{IsBytes-from}
+use Rattle.std.proofs.Common.{◌≡◌, ◌≤◌, length, refl, sym, subst, arith}
 use Rattle.epic_ledger.specs.Parts.{Row}
 use Rattle.epic_ledger.specs.declared.emissions.Span.{Span}
 use Rattle.epic_ledger.proofs.InRow.{emissions_push, row_push}
@@ -10,7 +10,7 @@ invariant_of-self c =
     let spans = c.self.inside.spans in
     let row = c.self.inside.row in
     let bytes = c.args.bytes.now in
-    let fits : IsBytes bytes = search rules in
+    let fits = IsBytes-from bytes c.type_inv.bytes in
     let s : Span = record { place = c.args.place; start = c.len-start.result; len = length bytes } in
     let spare = subst (λ (r : Row). 1 ≤ r.spare) (sym c.self.view_is) c.requires.room in
     let byte_spare = subst (λ (r : Row). length bytes ≤ r.byte_spare) (sym c.self.view_is) c.requires.byte_room in

@@ -1,11 +1,10 @@
-use Rattle.std.proofs.Common.{rules}
-use Rattle.epic_layout.specs.Contents.{IsBytes}
+use Rattle.epic_layout.proofs.Cuts.{IsBytes-from}
 use Rattle.epic_ledger.proofs.Growing.{lawful_emit}
 use Rattle.epic_ledger.proofs.ledger.Ledger.emit.Goals as goal
 
 pub invariant_of-self : goal.invariant_of-self
 invariant_of-self c =
-    let fits : IsBytes c.args.bytes.now = search rules in
+    let fits = IsBytes-from c.args.bytes.now c.type_inv.bytes in
     rw c.push.ensures.emissions
     (lawful_emit c.self.inside.log.events c.self.inside.emissions.emissions (record { place = c.args.place; bytes = c.args.bytes.now })
     c.self.invariant (record { bytes = fits; faultless = c.requires.faultless }))
