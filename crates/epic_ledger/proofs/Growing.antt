@@ -9,9 +9,8 @@ use Rattle.std.proofs.Math.Dec.{eqb-suc-zero}
 use Rattle.arrayvec.specs.ArrayVec.{ArrayVec}
 use Rattle.epic_num.specs.declared.name.AsId.{AsId}
 use Rattle.epic_num.specs.Chains.{Issue}
-use Rattle.epic_num.specs.Levels.{is_first_byte}
 use Rattle.epic_layout.specs.Contents.{Contents, hop_count}
-use Rattle.epic_layout.specs.Layout.{fault, parse}
+use Rattle.epic_layout.specs.Layout.{parse}
 use Rattle.epic_layout.specs.Route.{no_segment}
 use Rattle.epic_ledger.specs.History.{Emission, emission_at, step_of}
 use Rattle.epic_ledger.specs.Facts.{issues_in, packet_at}

@@ -9,7 +9,6 @@ use Rattle.std.proofs.lemmas.Option.{none-some, slice_get-map, slice_get_within,
 use Rattle.epic_num.specs.Levels.{is_first_byte}
 use Rattle.epic_layout.specs.Layout.{fault}
 use Rattle.epic_ledger.specs.History.{Emission, emission_at, emitted}
-use Rattle.epic_ledger.specs.Lawful.{IsEmission}
 use Rattle.epic_ledger.specs.Rows.{emission_in, emissions_in, IsRow}
 use Rattle.epic_ledger.proofs.Growing.{emission_at-suc, emission_at-zero}
 use Rattle.epic_ledger.specs.declared.emissions.Span.{Span}
@@ -73,13 +72,13 @@ wider : (row more : List ℕ) (spans : List Span) → All (λ s. s.start + s.len
 wider row more spans h k d in' = let here = h k d in' in omega (arith, length-append row more)
 
 pub row_push : (row bytes : List ℕ) (spans : List Span) (s : Span) → IsRow row spans → s.start ≡ length row → s.len ≡ length bytes
-    → IsEmission (record { place = s.place; bytes = bytes }) → length spans + 1 ≤ MAX_EMISSIONS → length row + length bytes ≤ MAX_BYTES
+    → fault is_first_byte bytes ≡ None → length spans + 1 ≤ MAX_EMISSIONS → length row + length bytes ≤ MAX_BYTES
     → IsRow (row ++ bytes) (spans ++ s ∷ [])
 row_push row bytes spans s h starts long faultless few few_bytes = record {
   packets =
-      subst (All IsEmission) (sym (emissions_push row bytes spans s h.within starts long))
-      (All-append IsEmission (emissions_in row spans) (record { place = s.place; bytes = bytes } ∷ []) h.packets
-      (All-cons IsEmission (record { place = s.place; bytes = bytes }) [] faultless (All-nil IsEmission)));
+      subst (All (λ (e : Emission). fault is_first_byte e.bytes ≡ None)) (sym (emissions_push row bytes spans s h.within starts long))
+      (All-append (λ (e : Emission). fault is_first_byte e.bytes ≡ None) (emissions_in row spans) (record { place = s.place; bytes = bytes } ∷ []) h.packets
+      (All-cons (λ (e : Emission). fault is_first_byte e.bytes ≡ None) (record { place = s.place; bytes = bytes }) [] faultless (All-nil (λ (e : Emission). fault is_first_byte e.bytes ≡ None))));
   within =
       let here : s.start + s.len ≤ length (row ++ bytes) = omega (arith, length-append row bytes) in
       All-append (λ (t : Span). t.start + t.len ≤ length (row ++ bytes)) spans (s ∷ []) (wider row bytes spans h.within)
@@ -94,11 +93,11 @@ row_push row bytes spans s h starts long faultless few few_bytes = record {
 }
 
 -- an emission that is there is a packet
-pub faultless_at : (es : List Emission) (n : ℕ) (e : Emission) → All IsEmission es → emission_at es n ≡ Some e → fault is_first_byte e.bytes ≡ None
+pub faultless_at : (es : List Emission) (n : ℕ) (e : Emission) → All (λ x. fault is_first_byte x.bytes ≡ None) es → emission_at es n ≡ Some e → fault is_first_byte e.bytes ≡ None
 faultless_at es zero e h at = absurd (none-some e (sym (emission_at-zero es) ∙ at))
 faultless_at es (suc n) e h at =
     let there : slice_get es n ≡ Some e = sym (emission_at-suc es n) ∙ at in
-    (subst IsEmission (get_or_from_slice_get es n e e there) (h n e (slice_get_within es n e there))).faultless
+    subst (λ (x : Emission). fault is_first_byte x.bytes ≡ None) (get_or_from_slice_get es n e e there) (h n e (slice_get_within es n e there))
 
 pub emission_at-row : (row : List ℕ) (spans : List Span) (n : ℕ) → (n ≡ 0 → ⊥) → emission_at (emissions_in row spans) n ≡ option_map (emission_in row) (slice_get spans (n - 1))
 emission_at-row row spans zero h = absurd (h refl)

@@ -2,9 +2,10 @@
 use Rattle.std.specs.Prelude.{◌≡◌, ℕ, ◌+◌, ◌-◌, ◌≤◌, List, length, map, min, take, drop, None}
 use Rattle.std.specs.List.{All, sum_by}
 use Rattle.epic_num.specs.Chains.{Issue}
+use Rattle.epic_num.specs.Levels.{is_first_byte}
+use Rattle.epic_layout.specs.Layout.{fault}
 use Rattle.epic_ledger.specs.History.{Emission}
 use Rattle.epic_ledger.specs.Facts.{issues_in}
-use Rattle.epic_ledger.specs.Lawful.{IsEmission}
 use Rattle.epic_ledger.specs.declared.event.Event.{Event}
 use Rattle.epic_ledger.specs.declared.emissions.Span.{Span}
 use Rattle.epic_ledger.specs.declared.log.Issued.{Issued}
@@ -23,7 +24,7 @@ emissions_in row spans = map (emission_in row) spans
 
 -- the bytes of all emissions are packets, and make up a row
 pub record IsRow (row : List ℕ) (spans : List Span) : Type 0 where
-  pub packets : All IsEmission (emissions_in row spans)
+  pub packets : All (λ e. fault is_first_byte e.bytes ≡ None) (emissions_in row spans)
   pub within : All (λ s. s.start + s.len ≤ length row) spans
   pub whole : sum_by (λ s. s.len) spans ≡ length row
   pub few : length spans ≤ MAX_EMISSIONS

@@ -1,1 +1,3 @@
 mod BeaconsIn
+mod Refined
+mod SameStore

@@ -1,2 +1,10 @@
 //! The world: many actors, one step at a time, over the ledger of what happened.
 #![tactic(auto)]
+
+mod fetching;
+mod issuing;
+mod paths;
+mod stepping;
+mod world;
+
+pub use world::World;

@@ -1,4 +1,3 @@
-use Rattle.epic_layout.proofs.Cuts.{IsBytes-from}
 use Rattle.std.proofs.Common.{◌≡◌, ◌≤◌, length, refl, sym, subst, arith}
 use Rattle.epic_ledger.specs.Parts.{Row}
 use Rattle.epic_ledger.specs.declared.emissions.Span.{Span}
@@ -10,13 +9,12 @@ invariant_of-self c =
     let spans = c.self.inside.spans in
     let row = c.self.inside.row in
     let bytes = c.args.bytes.now in
-    let fits = IsBytes-from bytes c.type_inv.bytes in
     let s : Span = record { place = c.args.place; start = c.len-start.result; len = length bytes } in
     let spare = subst (λ (r : Row). 1 ≤ r.spare) (sym c.self.view_is) c.requires.room in
     let byte_spare = subst (λ (r : Row). length bytes ≤ r.byte_spare) (sym c.self.view_is) c.requires.byte_room in
     let starts : c.len-start.result ≡ length row.items = omega (arith, row.ok.0) in
     rw (c.in-Ok.ensures.items, c.push_reserved.ensures.items)
-    (row_push row.items bytes spans.items s c.self.invariant starts refl (record { bytes = fits; faultless = c.requires.faultless })
+    (row_push row.items bytes spans.items s c.self.invariant starts refl c.requires.faultless
     (omega (arith, spare)) (omega (arith, byte_spare)))
 
 pub returns-clause-emissions : goal.returns-clause-emissions

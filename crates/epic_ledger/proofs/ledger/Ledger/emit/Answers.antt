@@ -4,7 +4,6 @@ use Rattle.epic_ledger.proofs.ledger.Ledger.emit.Goals as goal
 
 pub invariant_of-self : goal.invariant_of-self
 invariant_of-self c =
-    let fits = IsBytes-from c.args.bytes.now c.type_inv.bytes in
     rw c.push.ensures.emissions
     (lawful_emit c.self.inside.log.events c.self.inside.emissions.emissions (record { place = c.args.place; bytes = c.args.bytes.now })
-    c.self.invariant (record { bytes = fits; faultless = c.requires.faultless }))
+    c.self.invariant (record { bytes = IsBytes-from _ c.type_inv.bytes; faultless = c.requires.faultless }))

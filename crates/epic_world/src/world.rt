@@ -1,0 +1,84 @@
+ghost use Rattle.std.specs.Prelude.{◌≡◌, ◌≤◌};
+ghost use Rattle.epic_ledger.specs.Facts.{facts_of};
+ghost use Rattle.epic_ledger.specs.Lawful.{IsLawful};
+ghost use Rattle.epic_audit.specs.Kept.{Kept};
+
+use epic_audit::ledgers;
+use epic_beacon::Beacons;
+use epic_keys::KeyStore;
+use epic_ledger::Ledger;
+use epic_num::MAX_MOMENT;
+use epic_topo::Topology;
+use std::alloc::Global;
+use std::marker::Model;
+
+/// The actors of a topology, and the ledger of what they did.
+#[derive(Drop)]
+pub struct World {
+    pub(crate) topo: Topology,
+    pub(crate) beacons: Beacons,
+    pub(crate) keys: KeyStore,
+    pub(crate) ledger: Ledger,
+    // The present moment, in microseconds.
+    pub(crate) moment: u64,
+    pub(crate) steps: u32,
+}
+
+impl Model for World {
+    ghost use Rattle.epic_world.specs.Refining.{Refines, Standing};
+
+    ghost Value = { Standing };
+
+    ghost view = { λ w. record { network = w.topo; state = record { moment = w.moment; steps = w.steps; history = w.ledger.history } } };
+
+    ghost invariant = { λ w. Refines w.topo w.beacons w.keys w.moment w.steps w.ledger.history };
+}
+
+impl World {
+    ghost use Rattle.epic_world.specs.State.{start};
+
+    /// A world in which nothing has happened. It takes no memory.
+    pub fn new(alloc: Global, topo: Topology) -> World
+        ensures network { result.network ≡ topo }
+        ensures state { result.state ≡ start }
+    {
+        ledgers();
+        World {
+            topo,
+            beacons: Beacons::new(alloc),
+            keys: KeyStore::new(alloc),
+            ledger: Ledger::new(alloc),
+            moment: 0,
+            steps: 0,
+        }
+    }
+
+    /// How many steps there were.
+    pub fn steps(&self) -> u32
+        ensures { result ≡ self.now.state.steps }
+    {
+        self.steps
+    }
+
+    /// The present moment, in microseconds.
+    pub fn now(&self) -> u64
+        ensures value { result ≡ self.now.state.moment }
+        ensures fits { result ≤ MAX_MOMENT }
+    {
+        self.moment
+    }
+
+    pub fn topology(&self) -> &Topology
+        ensures { result.now ≡ self.now.network }
+    {
+        &self.topo
+    }
+
+    /// What happened.
+    pub fn ledger(&self) -> &Ledger
+        ensures history { result.now.history ≡ self.now.state.history }
+        ensures kept { Kept self.now.network (facts_of self.now.state.history) }
+    {
+        &self.ledger
+    }
+}
