@@ -11,7 +11,7 @@ use Rattle.epic_world.specs.State.{kind_after, beacons_after, beacons_in}
 -- one more issue
 pub after_one_more : (t : Network) (beacons : List Beacon) (issues : List Issue) (i : Issue)
     → beacons_after t beacons (issues ++ i ∷ [])
-      ≡ beacons_after t beacons issues ++ beacon_of t i.name i.parent (kind_after t (beacons_after t beacons issues) i) ∷ []
+    ≡ beacons_after t beacons issues ++ beacon_of t i.name i.parent (kind_after t (beacons_after t beacons issues) i) ∷ []
 unfolding beacons_after
 after_one_more t beacons [] i = refl
 after_one_more t beacons (j ∷ issues) i = after_one_more t (beacons ++ beacon_of t j.name j.parent (kind_after t beacons j) ∷ []) issues i

@@ -1,3 +1,6 @@
+mod Answering
 mod BeaconsIn
+mod Joined
 mod Refined
 mod SameStore
+mod Segmented

@@ -1,13 +1,15 @@
 -- The objects of a world go on standing for its state.
 use Rattle.std.proofs.Common.{◌≡◌, ℕ, ◌+◌, ◌≤◌, ◌<◌, Bool, true, false, List, [], ◌∷◌, ◌++◌, length, reverse, refl, sym, ◌∙◌, ap, subst, arith, append-nil}
-use Rattle.std.specs.Prelude.{Option, None, Some, filter_map, ◌||◌}
+use Rattle.std.specs.Prelude.{Option, None, Some, filter_map, ◌||◌, ◌&&◌, ◌==◌}
 use Rattle.std.specs.List.{list_any, cons_option}
+use Rattle.std.proofs.lemmas.Bool.Decides.{nat_tests}
 use Rattle.std.proofs.lemmas.List.{length_push}
 use Rattle.std.proofs.lemmas.List.Elements.{All-append, All-cons, All-nil, filter_map-append}
 use Rattle.std.proofs.lemmas.List.Folds.{list_any-append}
 use Rattle.epic_num.specs.Chains.{Issue}
 use Rattle.epic_num.specs.declared.moment.TheConstants.{MAX_MOMENT}
 use Rattle.epic_num.specs.declared.name.AsId.{AsId}
+use Rattle.epic_num.specs.Same.{same_as}
 use Rattle.epic_topo.specs.Network.{Network}
 use Rattle.epic_keys.specs.Fetches.{Fetch, FetchSet, IsNone, Keeps, Adds, is_fetched, same_fetch}
 use Rattle.epic_beacon.specs.Kinds.{KindsKept}
@@ -21,6 +23,7 @@ use Rattle.epic_audit.specs.Kept.{Kept}
 use Rattle.epic_world.specs.State.{State, start, as_roll, as_fetch, beacons_after, beacons_in, generations_in, generation_in}
 use Rattle.epic_world.specs.Stepped.{with_event}
 use Rattle.epic_world.specs.Refining.{Refines}
+use Rattle.epic_world.specs.Turning.{most_emitted}
 
 -- ---- lists
 
@@ -117,11 +120,26 @@ issued t old new fetches moment n number h i r kept beacons generations kinds =
     (beacons ∙ ap (beacons_in t) (sym (one_more as_issue h.events e i refl))) generations kinds
     (λ f. r.fetched f ∙ ap (list_any (same_fetch f)) (sym (none_more as_fetch h.events e refl)))
 
-flip : (a b : Bool) → (a || b) ≡ (b || a)
-flip true true = refl
-flip true false = refl
-flip false true = refl
-flip false false = refl
+eq_flip : (a b : ℕ) → (a == b) ≡ (b == a)
+eq_flip a b = grind (arith, nat_tests)
+
+same_fetch_flip : (f g : Fetch) → same_fetch f g ≡ same_fetch g f
+unfolding same_fetch same_as
+same_fetch_flip f g i =
+    eq_flip f.source.0 g.source.0 i && eq_flip f.owner.0 g.owner.0 i && eq_flip f.epoch g.epoch i
+
+-- put behind, or in front
+behind_or_first : (a b : Bool) → (a || b) ≡ (b || (a || false))
+behind_or_first true true = refl
+behind_or_first true false = refl
+behind_or_first false true = refl
+behind_or_first false false = refl
+
+any_more : (f g : Fetch) (rows : List Fetch) → list_any (same_fetch f) (rows ++ g ∷ []) ≡ (same_fetch g f || list_any (same_fetch f) rows)
+any_more f g rows =
+    list_any-append (same_fetch f) rows (g ∷ [])
+    ∙ (sym (behind_or_first (same_fetch f g) (list_any (same_fetch f) rows))
+    ∙ ap (λ b. b || list_any (same_fetch f) rows) (same_fetch_flip f g))
 
 -- keys were fetched
 pub fetched : (t : Network) (store : Store) (before after : FetchSet) (moment n : ℕ) (h : History) (g : Fetch)
@@ -132,4 +150,38 @@ fetched t store before after moment n h g r kept adds =
     let e : Event = event.Fetch (n + 1) g.source g.owner g.epoch in
     grown t store store before after moment n h e r kept (omega arith) refl
     (r.beacons ∙ ap (beacons_in t) (sym (none_more as_issue h.events e refl))) refl r.kinds
-    (λ f. ?)
+    (λ f.
+    adds f
+    ∙ (ap (λ b. same_fetch g f || b) (r.fetched f)
+    ∙ (sym (any_more f g (filter_map as_fetch h.events)) ∙ ap (list_any (same_fetch f)) (sym (one_more as_fetch h.events e g refl)))))
+
+-- ---- the beginning
+
+nothing_rolled : (a : AsId) → generation_in [] a ≡ 0
+unfolding generation_in generations_in generation_of
+nothing_rolled a = refl
+
+nothing_issued : (t : Network) → beacons_in t [] ≡ []
+unfolding beacons_in beacons_after
+nothing_issued t = refl
+
+nothing_emitted : emitted [] ≤ most_emitted
+unfolding emitted
+nothing_emitted = omega arith
+
+pub begun : (t : Network) (store : Store) (fetches : FetchSet) (h : History)
+    → Kept t (facts_of (record { events = []; emissions = [] })) → store.beacons ≡ [] → IsUnrolled store.generations → KindsKept t store.beacons
+    → IsNone fetches → h.events ≡ [] → h.emissions ≡ [] → Refines t store fetches 0 0 h
+begun t store fetches h kept beacons generations kinds none events emissions =
+    subst (Refines t store fetches 0 0) (sym (same_history h [] [] events emissions)) (record {
+      kept = kept;
+      beacons = beacons ∙ sym (nothing_issued t);
+      kinds = kinds;
+      generations = λ a. generations a ∙ sym (nothing_rolled a);
+      fetched = none;
+      moment_fits = omega arith;
+      last = All-nil (λ (e : Event). step_of e ≤ 0);
+      few_events = omega arith;
+      few_emissions = omega arith;
+      few_bytes = nothing_emitted;
+    })

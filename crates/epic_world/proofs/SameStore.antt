@@ -49,12 +49,12 @@ unfolding extended extended_from extend_rows
 same_extended t s r number out exp now b g i =
     option_map_or
     (λ (p : Beacon).
-      let x = same_next t s r p.name out exp g i in
-      unless
-      (first_row
-      ((p.name.body.out == 0, Ended)
-      ∷ (p.name.body.pos == 16, TooLong)
-      ∷ (stands_in x.asn (chain (issues_of (b i)) number), Loop x.asn)
-      ∷ onward_rows t (b i) number p.kind x now))
-      (beacon_of t x number p.kind))
+    let x = same_next t s r p.name out exp g i in
+    unless
+    (first_row
+    ((p.name.body.out == 0, Ended)
+    ∷ (p.name.body.pos == 16, TooLong)
+    ∷ (stands_in x.asn (chain (issues_of (b i)) number), Loop x.asn)
+    ∷ onward_rows t (b i) number p.kind x now))
+    (beacon_of t x number p.kind))
     (beacon_at (b i) number) (Err Unknown)

@@ -2,7 +2,7 @@
 ghost use Rattle.std.specs.Prelude.{◌≡◌, ◌-◌, ◌^◌, ◌<◌};
 
 use crate::World;
-use epic_audit::ledgers;
+use crate::laws::keeps;
 use epic_keys::Fetched;
 use epic_ledger::Event;
 use epic_num::{Answer, AsId, OutOfMemory, Refusal};
@@ -32,7 +32,7 @@ impl World {
         self.ledger.reserve(1, 0, 0)?;
         match self.keys.fetch(&self.topo, source, owner, epoch) {
             Ok(Fetched::New) => {
-                ledgers();
+                keeps(&self.ledger);
                 self.ledger.push(Event::Fetch {
                     step: self.steps + 1,
                     source,

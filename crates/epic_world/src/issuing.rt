@@ -1,5 +1,5 @@
 //! Hops that ASes issue.
-ghost use Rattle.std.specs.Prelude.{◌≡◌, ◌-◌, ◌^◌, ◌<◌, ◌≤◌, IsSome, Some, Err};
+ghost use Rattle.std.specs.Prelude.{◌≡◌, ◌⊎◌, ◌-◌, ◌^◌, ◌<◌, ◌≤◌, IsSome, Some, Result, Err};
 ghost use Rattle.epic_num.specs.Chains.{Issue, issue_at};
 ghost use Rattle.epic_beacon.specs.Store.{issues_of};
 ghost use Rattle.epic_ledger.specs.Facts.{issues_in};
@@ -8,7 +8,7 @@ ghost use Rattle.epic_ledger.specs.declared.event.Event.TheVariants as event;
 ghost use Rattle.epic_world.specs.Stepped.{with_event};
 
 use crate::World;
-use epic_audit::ledgers;
+use crate::laws::keeps;
 use epic_beacon::Beacons;
 use epic_ledger::{Event, Ledger};
 use epic_num::{Answer, AsId, BeaconError, OutOfMemory, Refusal};
@@ -34,14 +34,15 @@ fn record_issue(beacons: &Beacons, ledger: &mut Ledger, step: u32, no: u32)
 }
 
 impl World {
-    ghost use Rattle.epic_world.specs.Stepped.{Steps, refused};
-    ghost use Rattle.epic_world.specs.Next.{next_extend, next_originate};
-    ghost use Rattle.epic_num.specs.declared.answer.Refusal.TheVariants.{Beacon};
+    ghost use Rattle.epic_num.specs.declared.beacon_error.BeaconError.{BeaconError};
+    ghost use Rattle.epic_beacon.specs.declared.beacon.Beacon.{Beacon};
+    ghost use Rattle.epic_world.specs.Stepped.{Steps};
+    ghost use Rattle.epic_world.specs.Next.{issued, next_extend, next_originate};
 
-    // A hop isn't issued. Want of memory is told, and then this is no step.
+    // A hop isn't issued. Where memory was wanting, this is no step.
     fn not_issued(&mut self, error: BeaconError) -> Result<Answer, OutOfMemory>
         requires { self.old.state.steps < 2 ^ 30 - 1 }
-        ensures step { Steps (refused self.old.state (Beacon error)) result self.old.state self.new.state }
+        ensures step { (told : Result Beacon BeaconError) → (error ≡ BeaconError.OutOfMemory) ⊎ (told ≡ Err error) → Steps (issued self.old.state told) result self.old.state self.new.state }
         ensures network { self.new.network ≡ self.old.network }
     {
         match error {
@@ -63,7 +64,7 @@ impl World {
         self.ledger.reserve(1, 0, 0)?;
         match self.beacons.originate(&self.topo, a, out, exp, self.moment) {
             Ok(no) => {
-                ledgers();
+                keeps(&self.ledger);
                 record_issue(&self.beacons, &mut self.ledger, self.steps + 1, no);
                 self.steps += 1;
                 Ok(Answer::Issued { no })
@@ -85,7 +86,7 @@ impl World {
             .extend(&self.topo, parent, out, exp, self.moment)
         {
             Ok(no) => {
-                ledgers();
+                keeps(&self.ledger);
                 record_issue(&self.beacons, &mut self.ledger, self.steps + 1, no);
                 self.steps += 1;
                 Ok(Answer::Issued { no })

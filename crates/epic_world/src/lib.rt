@@ -3,6 +3,7 @@
 
 mod fetching;
 mod issuing;
+mod laws;
 mod paths;
 mod stepping;
 mod world;

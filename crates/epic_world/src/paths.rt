@@ -23,9 +23,10 @@ fn ended_segments(alloc: Global, beacons: &Beacons) -> Result<Vec<Segment>, Allo
     ensures distinct { IfOk result (λ s. IsDistinct nat_eq (map last_issue s.items)) }
 {
     let mut segments = Vec::new(alloc);
-    for no in 1..=beacons.len() {
-        if let Ok(segment) = beacons.segment(no) {
-            segments.push(segment)?;
+    for before in 0..beacons.len() {
+        match beacons.segment(before + 1) {
+            Ok(segment) => segments.push(segment)?,
+            Err(_) => {}
         }
     }
     Ok(segments)
