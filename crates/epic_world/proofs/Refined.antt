@@ -51,7 +51,7 @@ last_more events e n last h =
 
 -- ---- one more event
 
-same_generation : (events : List Event) (e : Event) (a : AsId) → as_roll e ≡ None → generation_in (events ++ e ∷ []) a ≡ generation_in events a
+pub same_generation : (events : List Event) (e : Event) (a : AsId) → as_roll e ≡ None → generation_in (events ++ e ∷ []) a ≡ generation_in events a
 unfolding generation_in generations_in
 same_generation events e a none = ap (λ rolls. generation_of (reverse rolls) a) (none_more as_roll events e none)
 

@@ -1,4 +1,5 @@
 pub mod Next
+pub mod Passing
 pub mod Refining
 pub mod Run
 pub mod State

@@ -1,5 +1,5 @@
 -- What a step of one actor answers, and the state after it.
-use Rattle.std.specs.Prelude.{ℕ, ◌+◌, Bool, true, false, not, nat_lt, if◌then◌else◌, List, [], ◌∷◌, ◌++◌, length, Option, None, Some, Result, Ok, Err}
+use Rattle.std.specs.Prelude.{ℕ, ◌+◌, ◌≤◌, Bool, true, false, not, nat_lt, if◌then◌else◌, List, [], ◌∷◌, ◌++◌, length, Option, None, Some, Result, Ok, Err}
 use Rattle.std.specs.Option.{option_map_or}
 use Rattle.epic_num.specs.declared.answer.Answer.{Answer}
 use Rattle.epic_num.specs.declared.answer.Answer.TheVariants.{Moment, Issued, Fetched, Known, Paths, Passed, Refused}
@@ -8,6 +8,7 @@ use Rattle.epic_num.specs.declared.answer.Refusal.TheVariants.{UnknownAs, Beacon
 use Rattle.epic_num.specs.declared.beacon_error.BeaconError.{BeaconError}
 use Rattle.epic_num.specs.declared.command.Command.{Command}
 use Rattle.epic_num.specs.declared.command.Command.TheVariants as command
+use Rattle.epic_num.specs.declared.moment.TheConstants.{MAX_MOMENT}
 use Rattle.epic_num.specs.declared.name.AsId.{AsId}
 use Rattle.epic_num.specs.declared.passed.Place.{Place}
 use Rattle.epic_num.specs.declared.passed.Place.TheVariants.{Router, Host}
@@ -84,6 +85,11 @@ is_taken (command.Fetch source owner epoch) = true
 is_taken (command.Paths from to) = true
 is_taken (command.Turn a iface bytes) = true
 is_taken _ = false
+
+-- the moment of a command is one that fits
+unfoldable pub HasMoment : Command → Type 0
+HasMoment (command.At moment) = moment ≤ MAX_MOMENT
+HasMoment _ = Unit {0}
 
 -- one step. A command that isn't taken yet changes nothing but the number of steps.
 unfoldable pub next : Network → State → Command → Stepped

@@ -1,5 +1,5 @@
 //! What each event keeps of a ledger.
-ghost use Rattle.epic_audit.specs.Events.{EmissionsAddNothing, EventsKeep, NothingIsKept};
+ghost use Rattle.epic_audit.specs.Events.{EmissionsAddNothing, EmissionsAreLawful, EventsKeep};
 ghost use Rattle.epic_ledger.specs.Lawful.{IsLawful};
 
 use epic_audit::ledgers;
@@ -10,6 +10,7 @@ pub(crate) fn keeps(ledger: &Ledger)
     ensures lawful { IsLawful ledger.now.history }
     ensures events { EventsKeep }
     ensures emissions { EmissionsAddNothing }
+    ensures spelled { EmissionsAreLawful }
 {
     ledgers();
     let _ = ledger.events();

@@ -5,7 +5,9 @@ mod fetching;
 mod issuing;
 mod laws;
 mod paths;
+mod stand_in;
 mod stepping;
+mod turning;
 mod world;
 
 pub use world::World;

@@ -1,4 +1,4 @@
-ghost use Rattle.std.specs.Prelude.{◌≡◌, ◌≤◌};
+ghost use Rattle.std.specs.Prelude.{◌≡◌, ◌-◌, ◌^◌, ◌<◌, ◌≤◌, IsTrue};
 ghost use Rattle.epic_ledger.specs.Facts.{facts_of};
 ghost use Rattle.epic_ledger.specs.Lawful.{IsLawful};
 ghost use Rattle.epic_audit.specs.Kept.{Kept};
@@ -7,7 +7,7 @@ use epic_audit::ledgers;
 use epic_beacon::Beacons;
 use epic_keys::KeyStore;
 use epic_ledger::Ledger;
-use epic_num::MAX_MOMENT;
+use epic_num::{Answer, Command, MAX_MOMENT, OutOfMemory};
 use epic_topo::Topology;
 use std::alloc::Global;
 use std::marker::Model;
@@ -36,6 +36,8 @@ impl Model for World {
 
 impl World {
     ghost use Rattle.epic_world.specs.State.{start};
+    ghost use Rattle.epic_world.specs.Stepped.{Steps};
+    ghost use Rattle.epic_world.specs.Next.{next, is_taken, HasMoment};
 
     /// A world in which nothing has happened. It takes no memory.
     pub fn new(alloc: Global, topo: Topology) -> World
@@ -80,5 +82,29 @@ impl World {
         ensures kept { Kept self.now.network (facts_of self.now.state.history) }
     {
         &self.ledger
+    }
+
+    /// One step, of a command that worlds take so far. Where memory is wanting, nothing has changed.
+    #[tactic(auto, unfolding(crate::specs::Next::next, crate::specs::Next::is_taken, crate::specs::Next::HasMoment))]
+    pub fn step(&mut self, alloc: Global, command: &Command) -> Result<Answer, OutOfMemory>
+        requires taken { IsTrue (is_taken command.now) }
+        requires fits { HasMoment command.now }
+        requires few { self.old.state.steps < 2 ^ 30 - 1 }
+        ensures step { Steps (next self.old.network self.old.state command.now) result self.old.state self.new.state }
+        ensures network { self.new.network ≡ self.old.network }
+    {
+        match command {
+            Command::At { moment } => Ok(self.at(*moment)),
+            Command::Originate { a, out, exp } => self.originate(*a, *out, *exp),
+            Command::Extend { parent, out, exp } => self.extend(*parent, *out, *exp),
+            Command::Fetch {
+                source,
+                owner,
+                epoch,
+            } => self.fetch(*source, *owner, *epoch),
+            Command::Paths { from, to } => self.paths(alloc, *from, *to),
+            Command::Turn { a, iface, bytes } => self.turn(alloc, *a, *iface, bytes.as_slice()),
+            _ => unreachable!(),
+        }
     }
 }
