@@ -71,7 +71,7 @@ pub record IsIssued (t : Network) (old new : Store) (issues : List Issue) (told 
 pub as_many : (t : Network) (beacons : List Beacon) (issues : List Issue) → beacons ≡ beacons_in t issues → length beacons ≡ length issues
 as_many t beacons issues e = sym (length-issues_of beacons) ∙ ap length (ap issues_of e ∙ issues_in_beacons t issues)
 
-joined : (t : Network) (old new : Store) (issues : List Issue) (b : Beacon) (number : ℕ) → old.beacons ≡ beacons_in t issues
+pub joined : (t : Network) (old new : Store) (issues : List Issue) (b : Beacon) (number : ℕ) → old.beacons ≡ beacons_in t issues
     → number ≡ length old.beacons + 1 → new ≡ with_beacon old b → Joins t old.beacons b → IsIssued t old new issues (Ok b) number
 joined t old new issues b number e number_is new_is joins = record {
   beacon = b;

@@ -5,4 +5,5 @@ mod Passages
 mod Refined
 mod SameStore
 mod Segmented
+mod Soundness
 mod Turned
