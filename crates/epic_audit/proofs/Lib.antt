@@ -1,8 +1,11 @@
 mod Finds
+pub mod Walked
+mod Narrowed
+pub mod Passed
 mod Tests
 mod Queries
 mod Chained
-mod Twins
+mod Alike
 mod Fields
 mod Hop
 mod Updates
