@@ -5,7 +5,7 @@ use Rattle.std.specs.List.{list_any, range_with_len}
 use Rattle.std.specs.Option.{option_map_or}
 use Rattle.std.proofs.lemmas.Bool.{or_cases, or_parts, not-true, not-false}
 use Rattle.std.proofs.lemmas.List.FromFn.{length-range_with_len, get_or-range_with_len}
-use Rattle.std.proofs.lemmas.Option.{same_Some, slice_get_within, slice_get-get_or, get_or_from_slice_get}
+use Rattle.std.proofs.lemmas.Option.{same_Some, slice_get_within, get_or_from_slice_get}
 use Rattle.epic_num.specs.declared.hop.HopName.{HopName}
 use Rattle.epic_num.specs.declared.key_name.Holder.{Holder}
 use Rattle.epic_num.specs.declared.key_name.Holder.TheVariants.{As, Host}
@@ -84,7 +84,7 @@ module _ (f : Facts) (x : HopName) (p : Contents) (i : ℕ) where
       let passes = (is_pass_of-Decides x p i is.pass).1 (record { first_is = is.first_is; name_is = is.name_is; src_is = is.src_is; ts_is = is.ts_is; hop_is = is.hop_is }) in
       cc
 
-range_within : (n k i : ℕ) → slice_get (range_with_len 0 n) k ≡ Some i → i < n
+pub range_within : (n k i : ℕ) → slice_get (range_with_len 0 n) k ≡ Some i → i < n
 range_within n k i e =
     let lt : k < length (range_with_len 0 n) = slice_get_within (range_with_len 0 n) k i e in
     let inside : k < n = omega (arith, length-range_with_len 0 n) in

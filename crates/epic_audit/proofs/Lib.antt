@@ -2,15 +2,18 @@ mod Finds
 pub mod Walked
 mod Narrowed
 pub mod Passed
+mod Before
 mod Tests
 mod Queries
 mod Chained
 mod Alike
 mod Fields
 mod Hop
-mod Updates
+mod UpdateLaws
 mod Arrivals
 mod Dest
 mod Growth
 mod Keeping
 mod Lists
+mod Opened
+mod Calls

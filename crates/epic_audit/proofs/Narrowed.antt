@@ -2,10 +2,14 @@
 use Rattle.std.proofs.Common.{◌≡◌, ℕ, Bool, true, false, ◌&&◌, List, [], Option, Some, None, find, slice_get, refl, ap, sym, ◌∙◌, subst}
 use Rattle.std.specs.Prelude.{option_map, option_and_then, if◌then◌else◌, ◌==◌, nat_lt, bytes_eq, IsSome, take}
 use Rattle.std.specs.Option.{option_map_or}
-use Rattle.std.proofs.lemmas.Bool.{and_parts, both_ways, false_from_ne_true}
+use Rattle.std.proofs.lemmas.Bool.{and_parts, both_ways}
 use Rattle.std.proofs.lemmas.Option.{same_Some}
 use Rattle.epic_num.specs.declared.hop.HopName.{HopName}
 use Rattle.epic_num.specs.declared.name.HostId.{HostId}
+use Rattle.epic_num.specs.declared.key_name.Holder.TheVariants.{As}
+use Rattle.epic_num.specs.declared.key_name.KeyName.{KeyName}
+use Rattle.epic_num.specs.Holders.{holders}
+use Rattle.epic_num.specs.Levels.{is_tagged}
 use Rattle.epic_num.specs.Chains.{Issue, name_of}
 use Rattle.epic_num.specs.Same.{same_host}
 use Rattle.epic_layout.specs.Contents.{Contents, hop_count}
@@ -13,14 +17,16 @@ use Rattle.epic_layout.specs.Layout.{parse}
 use Rattle.epic_ledger.specs.History.{History, Emission, emission_at}
 use Rattle.epic_ledger.specs.Facts.{Facts, Sent, as_send, facts_of, issues_in, packet_at, sent_issue, sent_name}
 use Rattle.epic_ledger.specs.Lawful.{Fits, IsLawful}
-use Rattle.epic_ledger.specs.Queries.{is_send_of, send_of, send_hop, same_path}
+use Rattle.epic_ledger.specs.Queries.{issue_of, is_send_of, send_of, send_hop, same_path}
 use Rattle.epic_ledger.specs.declared.event.Event.{Event}
 use Rattle.epic_ledger.specs.declared.event.Event.TheVariants as event
 use Rattle.epic_topo.specs.Network.{Network}
+use Rattle.epic_fields.specs.PacketTags.{field_name}
 use Rattle.epic_audit.specs.Clauses.{is_sent_like, is_sent_as, sent_as}
 use Rattle.epic_audit.specs.Kept.{AreApart}
-use Rattle.epic_audit.specs.Searches.{first_sent, name_sent, sent_like, if_like, if_named, if_twin, if_alike, is_alike}
-use Rattle.epic_audit.specs.Verdicts.{is_named, is_twin, source_of, twin_sent}
+use Rattle.epic_audit.specs.Searches.{first_sent, name_sent, sent_like, if_like, if_named, if_twin, if_alike, is_alike, unissued_lines, unsourced_lines, issued_lines, hop_found}
+use Rattle.epic_audit.specs.Reveals.{reveal_step, least_step}
+use Rattle.epic_audit.specs.Verdicts.{is_named, is_twin, twin_issue, broken_chain, source_of, twin_sent, hop_lines, hop_verdict}
 use Rattle.epic_audit.proofs.Finds.{found, missing, found_only}
 use Rattle.epic_audit.proofs.Lists.{answered}
 use Rattle.epic_audit.proofs.Tests.{is_send_of-Decides}
@@ -180,3 +186,88 @@ module _ (f : Facts) (p : Contents) (apart : AreApart f.sends) where
       by (Some s) e =
           inside s (s.packet.first == p.first) true
           ∙ ap (λ (b : Bool). option_map (λ (r : Sent). r.emission) (if b && is_named x (sent_name f.issues s j) then Some s else None)) (sym (like_is s (first_passes f p s e)))
+
+  pub twin_is : (t : Network) (x : HopName) (j : ℕ) → if_twin t x (sent_like f p) (name_sent f p j) ≡ twin_sent t f x p j
+  unfolding sent_like first_sent name_sent twin_sent
+  twin_is t x j =
+      by (send_of f.sends p.src p.ts) refl
+      ∙ ap (λ (o : Option Sent). option_and_then (λ y. if is_twin t x y then Some y else None) (option_and_then (λ s. sent_name f.issues s j) o))
+      (sym (narrowed p f.sends apart (is_sent_like p) like_implies))
+    where
+      inside : (s : Sent) (a : Bool) (n : Option HopName)
+          → if_twin t x (if a then Some s.emission else None) n
+          ≡ option_and_then (λ y. if is_twin t x y then Some y else None) (option_and_then (λ (r : Sent). n) (if a then Some s else None))
+      inside s true None = refl
+      inside s true (Some y) = refl
+      inside s false n = refl
+
+      named : (s : Sent) (a : Bool)
+          → option_and_then (λ (r : Sent). sent_name f.issues s j) (if a then Some s else None) ≡ option_and_then (λ r. sent_name f.issues r j) (if a then Some s else None)
+      named s true = refl
+      named s false = refl
+
+      by : (o : Option Sent) → send_of f.sends p.src p.ts ≡ o
+          → if_twin t x (if_like p (option_map pair o)) (option_and_then (λ s. sent_name f.issues s j) o)
+          ≡ option_and_then (λ y. if is_twin t x y then Some y else None) (option_and_then (λ s. sent_name f.issues s j) (option_and_then (λ s. if is_sent_like p s then Some s else None) o))
+      by None e = refl
+      by (Some s) e =
+          inside s (s.packet.first == p.first) (sent_name f.issues s j)
+          ∙ (ap (option_and_then (λ y. if is_twin t x y then Some y else None)) (named s (s.packet.first == p.first))
+          ∙ ap (λ (b : Bool). option_and_then (λ y. if is_twin t x y then Some y else None) (option_and_then (λ r. sent_name f.issues r j) (if b then Some s else None)))
+          (sym (like_is s (first_passes f p s e))))
+
+  as_implies : (s : Sent) → is_sent_as p s ≡ true → is_send_of p.src p.ts s ≡ true
+  unfolding is_sent_as
+  as_implies s e =
+      let a = and_parts (is_sent_like p s && same_host s.packet.dst p.dst && same_path s.packet.route p.route) (bytes_eq s.packet.payload p.payload) e in
+      let b = and_parts (is_sent_like p s && same_host s.packet.dst p.dst) (same_path s.packet.route p.route) a.0 in
+      let c = and_parts (is_sent_like p s) (same_host s.packet.dst p.dst) b.0 in
+      like_implies s c.0
+
+  as_is : (s : Sent) → is_send_of p.src p.ts s ≡ true → is_sent_as p s ≡ is_alike p s.packet
+  unfolding is_sent_as is_alike
+  as_is s e = ap (λ (b : Bool). b && same_host s.packet.dst p.dst && same_path s.packet.route p.route && bytes_eq s.packet.payload p.payload) (like_is s e)
+
+  abbrev count : Sent → ℕ × ℕ
+  count s = (s.emission, hop_count s.packet)
+
+  pub sent_is : if_alike p (first_sent f p) ≡ option_map (λ s. (s.emission, hop_count s.packet)) (sent_as f.sends p)
+  unfolding first_sent sent_as
+  sent_is =
+      by (send_of f.sends p.src p.ts) refl ∙ ap (option_map count) (sym (narrowed p f.sends apart (is_sent_as p) as_implies))
+    where
+      inside : (s : Sent) (a : Bool) → (if a then Some (count s) else None) ≡ option_map count (if a then Some s else None)
+      inside s true = refl
+      inside s false = refl
+
+      by : (o : Option Sent) → send_of f.sends p.src p.ts ≡ o
+          → if_alike p (option_map pair o) ≡ option_map count (option_and_then (λ s. if is_sent_as p s then Some s else None) o)
+      by None e = refl
+      by (Some s) e =
+          inside s (is_alike p s.packet) ∙ ap (λ (b : Bool). option_map count (if b then Some s else None)) (sym (as_is s (first_passes f p s e)))
+
+-- ---- the verdict of a hop by what was found
+
+lines_are : (x : HopName) (j : ℕ) (key : KeyName) (issue step : Option ℕ) (twin : Option HopName) (c : Option (HopName × HopName)) (tagged : Bool)
+    (send opened : Option ℕ) (other : Option HopName)
+    → issued_lines issue (unissued_lines x j step twin) c tagged send (unsourced_lines x j key opened other)
+    ≡ hop_lines x j key issue step twin c tagged send opened other
+lines_are x j key None (Some step) twin c tagged send opened other = refl
+lines_are x j key None None (Some twin) c tagged send opened other = refl
+lines_are x j key None None None c tagged send opened other = refl
+lines_are x j key (Some issue) step twin (Some c) tagged send opened other = refl
+lines_are x j key (Some issue) step twin None false send opened other = refl
+lines_are x j key (Some issue) step twin None true (Some send) opened other = refl
+lines_are x j key (Some issue) step twin None true None (Some opened) other = refl
+lines_are x j key (Some issue) step twin None true None None (Some other) = refl
+lines_are x j key (Some issue) step twin None true None None None = refl
+
+pub hop_found_is : (t : Network) (f : Facts) (x : HopName) (p : Contents) (j : ℕ) → AreApart f.sends → hop_found t f x p j ≡ hop_verdict t f x p j
+unfolding hop_found
+hop_found_is t f x p j apart =
+    let key = field_name t x.asn p in
+    let opened = least_step f.reveals (holders key) in
+    lines_are x j key (issue_of f.issues x) (reveal_step f.reveals (As x.asn)) (twin_issue t f x p) (broken_chain f x p j) (is_tagged p.first)
+    (if_named x (sent_like f p) (name_sent f p j)) opened (if_twin t x (sent_like f p) (name_sent f p j))
+    ∙ λ i. hop_lines x j key (issue_of f.issues x) (reveal_step f.reveals (As x.asn)) (twin_issue t f x p) (broken_chain f x p j) (is_tagged p.first)
+    (source_is f p apart x j i) opened (twin_is f p apart t x j i)

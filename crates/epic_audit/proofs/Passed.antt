@@ -1,17 +1,16 @@
 -- What is asked of accepted hops, and what walks along the events find.
-use Rattle.std.proofs.Common.{◌≡◌, ℕ, zero, suc, ◌+◌, ◌<◌, Bool, true, false, ◌||◌, cond, List, [], ◌∷◌, length, take, drop, Option, Some, None, find, slice_get, refl, ap, sym, ◌∙◌, arith}
+use Rattle.std.proofs.Common.{◌≡◌, ℕ, ◌+◌, Bool, true, false, ◌||◌, cond, List, [], ◌∷◌, take, drop, Option, Some, None, find, slice_get, refl, ap, sym, ◌∙◌}
 use Rattle.std.specs.Prelude.{filter_map, is_some, option_map, option_and_then, if◌then◌else◌}
 use Rattle.std.specs.List.{list_any, position, cons_option}
 use Rattle.std.specs.Borrow.{Bor}
 use Rattle.std.specs.Option.{option_map_or, option_or, option_copied}
 use Rattle.std.proofs.lemmas.Option.{same_Some}
 use Rattle.epic_num.specs.declared.hop.HopName.{HopName}
-use Rattle.epic_num.specs.declared.name.HostId.{HostId}
 use Rattle.epic_layout.specs.Contents.{Contents}
 use Rattle.epic_num.specs.Chains.{Issue}
 use Rattle.epic_layout.specs.Layout.{parse}
 use Rattle.epic_ledger.specs.History.{History, Emission, emission_at}
-use Rattle.epic_ledger.specs.Facts.{Facts, Pass, as_pass, facts_of, issues_in, packet_at, pass_name}
+use Rattle.epic_ledger.specs.Facts.{Pass, as_pass, facts_of, issues_in, packet_at, pass_name}
 use Rattle.epic_ledger.specs.Lawful.{Fits, IsLawful}
 use Rattle.epic_ledger.specs.declared.event.Event.{Event}
 use Rattle.epic_ledger.specs.declared.event.Event.TheVariants as event

@@ -1,21 +1,31 @@
 -- What the calls look for on the way to a verdict, by the ledger's own answers.
-use Rattle.std.specs.Prelude.{ℕ, ◌==◌, ◌&&◌, ◌||◌, not, Bool, false, List, [], ◌∷◌, Option, None, Some, find, option_map, option_and_then, unwrap_or, bytes_eq, if◌then◌else◌, ⊤}
+use Rattle.std.specs.Prelude.{ℕ, ◌-◌, ◌==◌, ◌&&◌, ◌||◌, not, Bool, true, false, List, [], ◌∷◌, Option, None, Some, find, option_map, option_and_then, unwrap_or, bytes_eq, if◌then◌else◌, ⊤}
 use Rattle.std.specs.List.{list_any, range_with_len}
 use Rattle.std.specs.Option.{option_map_or, option_or}
 use Rattle.epic_num.specs.declared.hop.HopName.{HopName}
 use Rattle.epic_num.specs.declared.key_name.Holder.TheVariants.{As, Host}
+use Rattle.epic_num.specs.declared.key_name.KeyName.{KeyName}
+use Rattle.epic_num.specs.declared.key_name.KeyName.TheVariants.{Fwd}
+use Rattle.epic_num.specs.declared.verdict.ForgedKind.TheVariants as kind
+use Rattle.epic_num.specs.declared.verdict.Part.TheVariants.{Link, Sigma}
+use Rattle.epic_num.specs.declared.verdict.Verdict.{Verdict}
+use Rattle.epic_num.specs.declared.verdict.Verdict.TheVariants.{Proved, Unclaimed, Opened, Forged, Collided}
+use Rattle.epic_num.specs.Holders.{holders}
+use Rattle.epic_num.specs.Levels.{is_tagged}
 use Rattle.epic_num.specs.Same.{same_host}
 use Rattle.epic_layout.specs.Contents.{Contents, hop_count}
+use Rattle.epic_layout.specs.Route.{place, is_first}
 use Rattle.epic_topo.specs.Network.{Network}
 use Rattle.epic_ledger.specs.declared.event.Event.{Event}
 use Rattle.epic_ledger.specs.declared.event.Event.TheVariants as event
-use Rattle.epic_ledger.specs.Facts.{Facts, Sent, Pass, as_pass, pass_name, sent_name}
+use Rattle.epic_ledger.specs.Facts.{Facts, as_pass, pass_name, sent_name}
 use Rattle.epic_ledger.specs.History.{Emission}
 use Rattle.epic_ledger.specs.Lawful.{FitsPass}
-use Rattle.epic_ledger.specs.Queries.{send_of, is_pass_of, same_path}
+use Rattle.epic_ledger.specs.Queries.{issue_of, send_of, is_pass_of, same_path, chain_pass}
 use Rattle.epic_audit.specs.Clauses.{is_level}
-use Rattle.epic_audit.specs.Reveals.{is_revealed}
-use Rattle.epic_audit.specs.Verdicts.{no_name, is_named, is_twin, is_twin_pass}
+use Rattle.epic_fields.specs.PacketTags.{field_name, dest_name}
+use Rattle.epic_audit.specs.Reveals.{is_revealed, reveal_step, least_step}
+use Rattle.epic_audit.specs.Verdicts.{no_name, is_named, is_twin, is_twin_pass, twin_issue, broken_chain, has_update, twin_pass, opened_or_forged}
 use Rattle.epic_audit.specs.declared.uncovered.Uncovered.{Uncovered}
 
 -- ---- what p's source first sent with p's timestamp
@@ -97,3 +107,64 @@ PassFits emissions (event.Send step emission segments) = ⊤
 PassFits emissions (event.Arrive step host src ts hops checked) = ⊤
 PassFits emissions (event.Reveal step holder) = ⊤
 PassFits emissions (event.Roll step a generation) = ⊤
+
+-- the name of the hop that was passed before hop j in its segment
+unfoldable pub passed_before : Facts → Contents → ℕ → Option HopName
+passed_before f p j =
+    if is_first (place p.route.segments j) then None else option_map pass_name (chain_pass f.passes p.route (j - 1))
+
+-- ---- verdicts by what was found
+
+-- of a hop that wasn't issued
+abbrev pub unissued_lines : HopName → ℕ → Option ℕ → Option HopName → Verdict
+unissued_lines x j (Some step) twin = Opened step
+unissued_lines x j None (Some twin) = Collided (record { part = Sigma; left = x; right = twin })
+unissued_lines x j None None =
+    Forged (record { kind = kind.Issue; hop = j; key = Fwd x.asn x.generation; generation = x.generation })
+
+-- of a hop that was issued and is chained, and whose field its source didn't make
+abbrev pub unsourced_lines : HopName → ℕ → KeyName → Option ℕ → Option HopName → Verdict
+unsourced_lines x j key (Some step) other = Opened step
+unsourced_lines x j key None (Some other) = Collided (record { part = Sigma; left = x; right = other })
+unsourced_lines x j key None None = Forged (record { kind = kind.Field; hop = j; key = key; generation = x.generation })
+
+-- of any hop
+abbrev pub issued_lines : Option ℕ → Verdict → Option (HopName × HopName) → Bool → Option ℕ → Verdict → Verdict
+issued_lines None unissued pair tagged send unsourced = unissued
+issued_lines (Some issue) unissued (Some pair) tagged send unsourced =
+    Collided (record { part = Link; left = pair.0; right = pair.1 })
+issued_lines (Some issue) unissued None false send unsourced = Proved issue 0
+issued_lines (Some issue) unissued None true (Some send) unsourced = Proved issue send
+issued_lines (Some issue) unissued None true None unsourced = unsourced
+
+unfoldable pub hop_found : Network → Facts → HopName → Contents → ℕ → Verdict
+hop_found t f x p j =
+    let key = field_name t x.asn p
+    in issued_lines
+    (issue_of f.issues x)
+    (unissued_lines x j (reveal_step f.reveals (As x.asn)) (twin_issue t f x p))
+    (broken_chain f x p j)
+    (is_tagged p.first)
+    (if_named x (sent_like f p) (name_sent f p j))
+    (unsourced_lines x j key (least_step f.reveals (holders key)) (if_twin t x (sent_like f p) (name_sent f p j)))
+
+-- of a packet that was sent so and has the update of an uncovered hop
+abbrev pub updated_lines : Network → Contents → Uncovered → Option HopName → Verdict
+updated_lines t p u (Some twin) = Collided (record { part = Sigma; left = twin; right = u.name })
+updated_lines t p u None =
+    Forged (record { kind = kind.Update; hop = u.hop; key = field_name t u.name.asn p; generation = u.name.generation })
+
+-- of a packet that was sent so
+abbrev pub sent_lines : Network → Facts → Contents → ℕ → Option Uncovered → Verdict
+sent_lines t f p send None = Proved 0 send
+sent_lines t f p send (Some u) =
+    if has_update t p u then updated_lines t p u (twin_pass t f p u)
+    else opened_or_forged (dest_name t p) (least_step f.reveals (holders (dest_name t p)))
+
+-- of a packet of level 2 or 3
+abbrev pub arrived_lines : Network → Facts → Contents → Option (ℕ × ℕ) → Verdict
+arrived_lines t f p (Some s) = sent_lines t f p s.0 (first_open f p s.1)
+arrived_lines t f p None = opened_or_forged (dest_name t p) (least_step f.reveals (holders (dest_name t p)))
+
+unfoldable pub dest_found : Network → Facts → Contents → Verdict
+dest_found t f p = if is_tagged p.first then arrived_lines t f p (if_alike p (first_sent f p)) else Unclaimed

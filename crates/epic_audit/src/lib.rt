@@ -2,14 +2,21 @@
 #![tactic(auto)]
 
 mod accepted;
+mod arrival;
 mod events;
 mod issues;
 mod laws;
 mod levels;
+mod linking;
+mod naming;
 mod reveals;
 mod sources;
 mod twins;
 mod uncovered;
+mod updates;
+mod verdict;
 
+pub use arrival::verdict_dest;
 pub use events::ledgers;
 pub use laws::{dest_verdicts, hop_verdicts};
+pub use verdict::verdict_hop;
