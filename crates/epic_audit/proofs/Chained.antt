@@ -69,7 +69,7 @@ some_position r j lt =
     cond_both (place r.segments j).head.against _ _ (λ n. 1 ≤ n) (λ e. omega arith) (λ e. omega arith)
 
 -- where hop i follows hop j, it carries the link tag of hop j, where that is right
-linked_to : (t : Network) (z : HopName) (p : Contents) (i j : ℕ) → has_link t z p j ≡ true → successor (place p.route.segments j) j ≡ Some i
+pub linked_to : (t : Network) (z : HopName) (p : Contents) (i j : ℕ) → has_link t z p j ≡ true → successor (place p.route.segments j) j ≡ Some i
     → (body p.route i).link ≡ link t z
 unfolding has_link body
 linked_to t z p i j right next =

@@ -12,8 +12,13 @@ mod Hop
 mod UpdateLaws
 mod Arrivals
 mod Dest
-mod Growth
-mod Keeping
+pub mod Growth
+pub mod Keeping
 mod Lists
 mod Opened
 mod Calls
+mod Built
+mod Descent
+mod SegmentExamples
+pub mod Whole
+pub mod Recording

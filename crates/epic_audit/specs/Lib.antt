@@ -1,3 +1,4 @@
+pub mod Chain
 pub mod Clauses
 pub mod Collided
 pub mod Events

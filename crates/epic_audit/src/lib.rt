@@ -3,6 +3,7 @@
 
 mod accepted;
 mod arrival;
+mod chain;
 mod events;
 mod issues;
 mod laws;
@@ -17,6 +18,7 @@ mod updates;
 mod verdict;
 
 pub use arrival::verdict_dest;
+pub use chain::whole_chains;
 pub use events::ledgers;
 pub use laws::{dest_verdicts, hop_verdicts};
 pub use verdict::verdict_hop;
