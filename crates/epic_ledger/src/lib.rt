@@ -1,6 +1,16 @@
 //! The ledger: what happened, in order, and the packets that are under way.
 #![tactic(auto)]
 
+mod emissions;
 mod event;
+mod ledger;
+mod limits;
+mod log;
+mod packet;
+mod passes;
+mod reveals;
+mod sends;
+mod spot;
 
 pub use event::Event;
+pub use ledger::Ledger;

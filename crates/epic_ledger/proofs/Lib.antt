@@ -1,0 +1,5 @@
+pub mod Growing
+pub mod InRow
+pub mod Logging
+pub mod Spots
+pub mod Tests

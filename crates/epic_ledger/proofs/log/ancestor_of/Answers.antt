@@ -1,0 +1,20 @@
+use Rattle.std.proofs.Common.{◌≡◌, suc, ◌+◌, ◌-◌, map, sym, ◌∙◌, ap, arith}
+use Rattle.epic_ledger.specs.Facts.{ancestor}
+use Rattle.epic_ledger.specs.Rows.{issue_in}
+use Rattle.epic_ledger.proofs.Logging.{ancestor-suc, ancestor-zero}
+use Rattle.epic_ledger.proofs.log.ancestor_of.Goals as goal
+
+pub loop-i-preserved : goal.loop-i-preserved
+loop-i-preserved c =
+    let issues = map issue_in c.args.issues.now in
+    let left = c.args.back - (c.loop-i.i + 1) in
+    let more : c.args.back - c.loop-i.i ≡ suc left = omega arith in
+    c.loop-i.invariant
+    ∙ (ap (ancestor issues c.loop-i.at) more
+    ∙ (ancestor-suc issues c.loop-i.at left ∙ ap (λ n. ancestor issues n left) (sym c.parent_of-at.ensures)))
+
+pub returns : goal.returns
+returns c =
+    let issues = map issue_in c.args.issues.now in
+    let none : c.args.back - c.loop-i.i ≡ 0 = omega arith in
+    sym (c.loop-i.invariant ∙ (ap (ancestor issues c.loop-i.at) none ∙ ancestor-zero issues c.loop-i.at))

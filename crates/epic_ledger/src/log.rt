@@ -1,0 +1,196 @@
+ghost use Rattle.std.specs.Prelude.{◌≡◌, ◌+◌, ◌^◌, ◌<◌, ◌≤◌, [], ◌∷◌, ◌++◌, length, map, option_map, position, vec_len, vec_capacity, IfSome, OnOk};
+ghost use Rattle.std.specs.Option.{option_map_or};
+ghost use Rattle.epic_num.specs.Chains as chains;
+ghost use Rattle.epic_num.specs.Same.{same_name};
+ghost use Rattle.epic_ledger.specs.Facts.{ancestor, as_issue, issues_in};
+ghost use Rattle.epic_ledger.specs.Queries as queries;
+ghost use Rattle.epic_ledger.specs.Rows.{issue_in};
+
+use crate::Event;
+use crate::limits::MAX_EVENTS;
+use epic_num::{HopName, same_name};
+use std::alloc::{AllocError, Global};
+use std::marker::Model;
+
+/// A hop that was issued, and the number of the issue that it goes on from, 0 for none.
+#[derive(Clone, Copy)]
+pub struct Issued {
+    pub name: HopName,
+    pub parent: u32,
+}
+
+/// Events in order, and their issues apart.
+#[derive(Drop)]
+pub struct Log {
+    events: Vec<Event>,
+    issues: Vec<Issued>,
+}
+
+impl Model for Log {
+    ghost use Rattle.epic_ledger.specs.Parts.{Logged};
+    ghost use Rattle.std.specs.Prelude.{◌-◌, length, min, vec_capacity};
+
+    ghost Value = { Logged };
+
+    ghost use Rattle.epic_ledger.specs.Rows.{room, IsLog};
+    ghost use Rattle.epic_ledger.specs.declared.limits.TheConstants.{MAX_EVENTS};
+
+    ghost view = { λ l. record { events = l.events.items; spare = min (room (vec_capacity l.events) MAX_EVENTS (length l.events.items)) (vec_capacity l.issues - length l.issues.items) } };
+
+    ghost invariant = { λ l. IsLog l.events.items l.issues.items };
+}
+
+/// The issue of a number, which counts from 1.
+#[tactic(auto, using(std::proofs::lemmas::Option::gets), unfolding(epic_num::specs::Chains::issue_at))]
+fn issue_at(issues: &[Issued], number: u32) -> Option<Issued>
+    ensures { option_map issue_in result ≡ chains.issue_at (map issue_in issues.now) number }
+{
+    if number == 0 {
+        return None;
+    }
+    issues.get(number as usize - 1).copied()
+}
+
+/// The number of the issue that an issue goes on from, 0 for none.
+#[tactic(auto, unfolding(crate::specs::Rows::issue_in))]
+fn parent_of(issues: &[Issued], number: u32) -> u32
+    ensures { result ≡ option_map_or (λ i. i.parent) (chains.issue_at (map issue_in issues.now) number) 0 }
+{
+    match issue_at(issues, number) {
+        Some(issue) => issue.parent,
+        None => 0,
+    }
+}
+
+/// The number of the issue that an issue goes on from, so many issues before it.
+fn ancestor_of(issues: &[Issued], number: u32, back: u8) -> u32
+    ensures { result ≡ ancestor (map issue_in issues.now) number back }
+{
+    let mut at = number;
+    for i in 0..back {
+        at = parent_of(issues, at);
+    }
+    at
+}
+
+/// The place of the first issue of a name, from 0.
+fn place_of(issues: &[Issued], name: &HopName) -> Option<usize>
+    ensures value { result ≡ position (λ i. same_name i.name name.now) issues.now }
+    ensures within { IfSome result (λ i. i < length issues.now) }
+{
+    issues.iter().position(|i| same_name(&i.name, name))
+}
+
+/// The issue's name and parent, where the event is an issue.
+#[tactic(auto, unfolding(crate::specs::Facts::as_issue, crate::specs::Rows::issue_in))]
+fn as_issue(event: &Event) -> Option<Issued>
+    ensures { option_map issue_in result ≡ as_issue event.now }
+{
+    match event {
+        Event::Issue { name, parent, .. } => Some(Issued {
+            name: *name,
+            parent: *parent,
+        }),
+        _ => None,
+    }
+}
+
+/// Adds the issue that the event is, if it is one.
+fn add_issue(issues: &mut Vec<Issued>, event: &Event)
+    requires { vec_len issues.old < vec_capacity issues.old }
+    ensures issues { map issue_in issues.new.items ≡ map issue_in issues.old.items ++ issues_in (event.now ∷ []) }
+    ensures len { vec_len issues.new ≤ vec_len issues.old + 1 }
+    ensures capacity { vec_capacity issues.new ≡ vec_capacity issues.old }
+{
+    if let Some(issue) = as_issue(event) {
+        issues.push_reserved(issue);
+    }
+}
+
+impl Log {
+    pub fn new(alloc: Global) -> Log
+        ensures { result.events ≡ [] }
+    {
+        Log {
+            events: Vec::new(alloc),
+            issues: Vec::new(alloc),
+        }
+    }
+
+    pub fn events(&self) -> &[Event]
+        ensures { result.now ≡ self.now.events }
+    {
+        self.events.as_slice()
+    }
+
+    pub fn len(&self) -> u32
+        ensures { result ≡ length self.now.events }
+    {
+        self.events.len() as u32
+    }
+
+    pub fn spare(&self) -> u32
+        ensures { result ≡ self.now.spare }
+    {
+        let events = self.events.capacity().min(MAX_EVENTS) - self.events.len();
+        let issues = self.issues.capacity() - self.issues.len();
+        events.min(issues) as u32
+    }
+
+    /// Makes room for so many more events.
+    pub fn reserve(&mut self, events: u32) -> Result<(), AllocError>
+        requires { length self.old.events + events < 2 ^ 31 }
+        ensures events { self.new.events ≡ self.old.events }
+        ensures spare { OnOk result (events ≤ self.new.spare) }
+        ensures kept { self.old.spare ≤ self.new.spare }
+    {
+        self.events.reserve(events as usize)?;
+        self.issues.reserve(events as usize)?;
+        Ok(())
+    }
+
+    /// Adds an event.
+    pub fn push(&mut self, event: Event)
+        requires { 1 ≤ self.old.spare }
+        ensures events { self.new.events ≡ self.old.events ++ event ∷ [] }
+        ensures spare { self.old.spare ≤ self.new.spare + 1 }
+    {
+        add_issue(&mut self.issues, &event);
+        self.events.push_reserved(event);
+    }
+
+    /// How many issues there are.
+    pub fn issues(&self) -> u32
+        ensures { result ≡ length (issues_in self.now.events) }
+    {
+        self.issues.len() as u32
+    }
+
+    /// The name of an issue, and the number of the issue that it goes on from.
+    #[tactic(auto, unfolding(crate::specs::Rows::issue_in))]
+    pub fn issue(&self, number: u32) -> Option<(HopName, u32)>
+        ensures { result ≡ option_map (λ i. (i.name, i.parent)) (chains.issue_at (issues_in self.now.events) number) }
+    {
+        match issue_at(self.issues.as_slice(), number) {
+            Some(issue) => Some((issue.name, issue.parent)),
+            None => None,
+        }
+    }
+
+    /// The number of the first issue of a name.
+    pub fn issue_of(&self, name: &HopName) -> Option<u32>
+        ensures { result ≡ queries.issue_of (issues_in self.now.events) name.now }
+    {
+        match place_of(self.issues.as_slice(), name) {
+            Some(place) => Some(place as u32 + 1),
+            None => None,
+        }
+    }
+
+    /// The number of the issue that an issue goes on from, so many issues before it.
+    pub fn ancestor(&self, number: u32, back: u8) -> u32
+        ensures { result ≡ ancestor (issues_in self.now.events) number back }
+    {
+        ancestor_of(self.issues.as_slice(), number, back)
+    }
+}

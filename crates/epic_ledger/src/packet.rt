@@ -1,0 +1,28 @@
+//! Packets whose bytes have no fault.
+ghost use Rattle.std.specs.Prelude.{◌≡◌, ◌==◌, None};
+ghost use Rattle.epic_num.specs.Levels.{is_first_byte};
+ghost use Rattle.epic_layout.specs.Layout.{fault, parse};
+
+use epic_layout::u64_at;
+use epic_view::PacketRef;
+
+/// The packet of bytes without a fault.
+#[tactic(auto, unfolding(epic_layout::specs::Layout::parse))]
+pub fn packet_in(bytes: &[u8]) -> PacketRef<'_>
+    requires { fault is_first_byte bytes.now ≡ None }
+    ensures { result ≡ parse bytes.now }
+{
+    match PacketRef::look(bytes) {
+        Ok(packet) => packet,
+        Err(_) => unreachable!(),
+    }
+}
+
+/// Whether the packet has this timestamp, which is read before anything else.
+#[tactic(auto, using(crate::proofs::Spots::timestamp_there), unfolding(epic_layout::specs::Layout::parse))]
+pub fn has_ts(bytes: &[u8], ts: u64) -> bool
+    requires { fault is_first_byte bytes.now ≡ None }
+    ensures { result ≡ ((parse bytes.now).ts == ts) }
+{
+    u64_at(bytes, 32) == ts
+}
