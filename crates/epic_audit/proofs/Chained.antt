@@ -69,7 +69,7 @@ some_position r j lt =
     cond_both (place r.segments j).head.against _ _ (λ n. 1 ≤ n) (λ e. omega arith) (λ e. omega arith)
 
 -- where hop i follows hop j, it carries the link tag of hop j, where that is right
-linked_to : (t : Network) (z : HopName) (p : Contents) (i j : ℕ) → has_link t z p j ≡ true → successor (place p.route.segments j) j ≡ Some i
+pub linked_to : (t : Network) (z : HopName) (p : Contents) (i j : ℕ) → has_link t z p j ≡ true → successor (place p.route.segments j) j ≡ Some i
     → (body p.route i).link ≡ link t z
 unfolding has_link body
 linked_to t z p i j right next =
@@ -97,7 +97,7 @@ on_path r k w e =
     (eqb-true w.hop k both.0, (bytes_eq-Decides (path_bytes w.packet.route) (path_bytes r)).0 both.1)
 
 -- an accepted hop has the name that the hop of a packet with these path bytes has
-pass_name_is : (w : Pass) (p : Contents) (k : ℕ) → w.packet.route ≡ p.route → w.hop ≡ k → pass_name w ≡ hop_name w.asn w.generation p k
+pub pass_name_is : (w : Pass) (p : Contents) (k : ℕ) → w.packet.route ≡ p.route → w.hop ≡ k → pass_name w ≡ hop_name w.asn w.generation p k
 unfolding pass_name hop_name
 pass_name_is w p k same at i = record { asn = w.asn; generation = w.generation; body = body (same i) (at i) }
 

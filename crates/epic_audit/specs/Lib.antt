@@ -1,3 +1,4 @@
+pub mod Chain
 pub mod Clauses
 pub mod Collided
 pub mod Events
@@ -7,4 +8,5 @@ pub mod Kept
 pub mod Laws
 pub mod Made
 pub mod Reveals
+pub mod Searches
 pub mod Verdicts
