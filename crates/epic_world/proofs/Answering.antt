@@ -1,7 +1,6 @@
 -- What steps are to answer.
-use Rattle.std.proofs.Common.{◌≡◌, ℕ, ◌+◌, ◌≤◌, ◌<◌, Bool, true, false, not, ◌||◌, List, map, length, refl, sym, ◌∙◌, ap, subst, inl, inr}
-use Rattle.std.specs.List.{list_any}
-use Rattle.std.specs.Prelude.{◌⊎◌, Result, Ok, Err, Some, None, Option, IsSome, filter_map, if◌then◌else◌}
+use Rattle.std.proofs.Common.{◌≡◌, ℕ, ◌+◌, ◌≤◌, ◌<◌, true, false, ◌||◌, List, map, length, refl, sym, ◌∙◌, ap, subst}
+use Rattle.std.specs.Prelude.{Result, Ok, Err, Some, Option, IsSome, if◌then◌else◌}
 use Rattle.std.proofs.lemmas.Bool.{lt-ltb, le-ltb}
 use Rattle.std.proofs.lemmas.Option.{same_Some}
 use Rattle.epic_num.specs.Chains.{Issue, issue_at, ended_issues}
@@ -13,7 +12,7 @@ use Rattle.epic_num.specs.declared.answer.Refusal.TheVariants.{Beacon as BeaconR
 use Rattle.epic_num.specs.declared.path_ref.PathRef.{PathRef}
 use Rattle.epic_topo.specs.Network.{Network, has}
 use Rattle.epic_keys.specs.Issues.{IssuesKept}
-use Rattle.epic_keys.specs.Fetches.{Fetch, FetchSet, is_fetched, is_known, same_fetch}
+use Rattle.epic_keys.specs.Fetches.{Fetch, FetchSet, is_known}
 use Rattle.epic_beacon.specs.declared.beacon.Beacon.{Beacon}
 use Rattle.epic_beacon.specs.Issuing.{Issues, originated, extended}
 use Rattle.epic_beacon.specs.Kinds.{KindsKept}

@@ -1,5 +1,5 @@
 -- The beacons of a row of issues.
-use Rattle.std.proofs.Common.{rules, ◌≡◌, refl, ◌∙◌, sym, ap, ℕ, List, [], ◌∷◌, ◌++◌, map, length, append-nil, append_assoc}
+use Rattle.std.proofs.Common.{◌≡◌, refl, ◌∙◌, sym, ap, List, [], ◌∷◌, ◌++◌, append-nil, append_assoc}
 use Rattle.std.proofs.lemmas.List.{map-append}
 use Rattle.epic_num.specs.Chains.{Issue}
 use Rattle.epic_topo.specs.Network.{Network}

@@ -1,21 +1,20 @@
 -- A hop that was issued, as the ledger is to tell it.
-use Rattle.std.proofs.Common.{◌≡◌, ◌≢◌, ℕ, zero, suc, ◌+◌, ◌-◌, ◌≤◌, ◌<◌, ◌==◌, Bool, true, false, List, [], ◌∷◌, ◌++◌, length, refl, sym, ◌∙◌, ap, subst, arith}
-use Rattle.std.specs.Prelude.{Option, None, Some, IsSome, Result, Ok, Err, slice_get, if◌then◌else◌}
+use Rattle.std.proofs.Common.{◌≡◌, ℕ, zero, suc, ◌+◌, ◌<◌, List, [], ◌∷◌, ◌++◌, length, refl, sym, ◌∙◌, ap, subst, arith}
+use Rattle.std.specs.Prelude.{Some, Result, Ok, Err}
 use Rattle.std.specs.Option.{option_map_or}
 use Rattle.std.proofs.Math.Dec.{eqb-suc-zero}
 use Rattle.epic_num.specs.Chains.{Issue, issue_at}
 use Rattle.epic_num.specs.declared.beacon_error.BeaconError.{BeaconError}
 use Rattle.epic_num.specs.declared.hop.HopName.{HopName}
 use Rattle.epic_num.specs.declared.name.AsId.{AsId}
-use Rattle.epic_num.specs.declared.segment.SegKind.{SegKind}
 use Rattle.epic_num.specs.declared.segment.SegKind.TheVariants.{Core}
 use Rattle.epic_topo.specs.Network.{Network}
 use Rattle.epic_keys.specs.Issues.{IsKept, IssuesKept}
 use Rattle.epic_beacon.specs.declared.beacon.Beacon.{Beacon}
 use Rattle.epic_beacon.specs.Issuing.{Issues, link_at, kind_by, first_name, next_name, beacon_of, originated, extended}
 use Rattle.epic_beacon.specs.Store.{Store, beacon_at, issue_of, issues_of, with_beacon}
-use Rattle.epic_beacon.proofs.Grown.{beacon_at-within, beacon_at-next, length-issues_of}
-use Rattle.epic_beacon.proofs.Issued.{Originated, Extended, originated_ok, extended_ok, issue_there}
+use Rattle.epic_beacon.proofs.Grown.{beacon_at-within, beacon_at-next, issues_of-append, length-issues_of}
+use Rattle.epic_beacon.proofs.Issued.{originated_ok, extended_ok, issue_there}
 use Rattle.epic_world.specs.State.{kind_after, beacons_in}
 use Rattle.epic_world.proofs.BeaconsIn.{in_one_more, issues_in_beacons}
 
@@ -71,7 +70,7 @@ pub record IsIssued (t : Network) (old new : Store) (issues : List Issue) (told 
 pub as_many : (t : Network) (beacons : List Beacon) (issues : List Issue) → beacons ≡ beacons_in t issues → length beacons ≡ length issues
 as_many t beacons issues e = sym (length-issues_of beacons) ∙ ap length (ap issues_of e ∙ issues_in_beacons t issues)
 
-pub joined : (t : Network) (old new : Store) (issues : List Issue) (b : Beacon) (number : ℕ) → old.beacons ≡ beacons_in t issues
+joined : (t : Network) (old new : Store) (issues : List Issue) (b : Beacon) (number : ℕ) → old.beacons ≡ beacons_in t issues
     → number ≡ length old.beacons + 1 → new ≡ with_beacon old b → Joins t old.beacons b → IsIssued t old new issues (Ok b) number
 joined t old new issues b number e number_is new_is joins = record {
   beacon = b;
@@ -100,3 +99,14 @@ pub is_kept : (t : Network) (old new : Store) (issues : List Issue) (told : Resu
 is_kept t old new issues told number h kept =
     subst (λ is. IsKept t is number (issue_of h.beacon)) (ap issues_of h.beacons ∙ issues_in_beacons t (issues ++ issue_of h.beacon ∷ []))
     (kept number (issue_of h.beacon) h.there)
+
+-- the same of a hop that is put behind the others
+pub new_is_kept : (t : Network) (beacons : List Beacon) (issues : List Issue) (b : Beacon) → beacons ≡ beacons_in t issues
+    → IssuesKept t (issues_of (beacons ++ b ∷ [])) → IsKept t (issues ++ issue_of b ∷ []) (length issues + 1) (issue_of b)
+new_is_kept t beacons issues b e kept =
+    let number = length issues + 1 in
+    let all = issues_of-append beacons b ∙ ap (λ is. is ++ issue_of b ∷ []) (ap issues_of e ∙ issues_in_beacons t issues) in
+    let there =
+    ap (λ n. issue_at (issues_of (beacons ++ b ∷ [])) (n + 1)) (sym (as_many t beacons issues e))
+    ∙ issue_there (beacons ++ b ∷ []) (length beacons + 1) b (beacon_at-next beacons b) in
+    subst (λ is. IsKept t is number (issue_of b)) all (kept number (issue_of b) there)

@@ -1,31 +1,29 @@
 -- A ledger in which a packet was passed on.
-use Rattle.std.proofs.Common.{◌≡◌, ℕ, zero, suc, ◌+◌, ◌≤◌, ◌<◌, Bool, true, false, List, [], ◌∷◌, ◌++◌, length, refl, sym, ◌∙◌, ap, subst, arith, add-one}
-use Rattle.std.specs.Prelude.{Option, None, Some, IsSome, slice_get, filter_map, bytes_eq}
-use Rattle.std.specs.List.{list_any, sum_by}
+use Rattle.std.proofs.Common.{◌≡◌, ℕ, ◌+◌, ◌≤◌, ◌<◌, Bool, true, List, [], ◌∷◌, ◌++◌, length, refl, sym, ◌∙◌, ap, subst, arith, add-one}
+use Rattle.std.specs.Prelude.{Option, Some, IsSome, slice_get, bytes_eq}
+use Rattle.std.specs.List.{list_any}
 use Rattle.std.specs.Option.{option_map_or}
 use Rattle.std.proofs.lemmas.List.{length_push}
 use Rattle.std.proofs.lemmas.List.Sums.{sum_by-cons, sum_by-append}
-use Rattle.epic_num.specs.declared.hop.Body.{Body}
-use Rattle.epic_num.specs.declared.hop.HopName.{HopName}
 use Rattle.epic_num.specs.declared.name.AsId.{AsId}
 use Rattle.epic_num.specs.declared.passed.Place.{Place}
-use Rattle.epic_topo.specs.Network.{Network, has}
-use Rattle.epic_keys.specs.Fetches.{Fetch, FetchSet, is_fetched, same_fetch}
+use Rattle.epic_topo.specs.Network.{Network}
+use Rattle.epic_keys.specs.Fetches.{FetchSet, same_fetch}
 use Rattle.epic_keys.specs.Tags.{link}
 use Rattle.epic_layout.specs.Contents.{Contents, hop_count}
 use Rattle.epic_layout.specs.Layout.{parse}
 use Rattle.epic_layout.specs.Route.{Route, place, is_first, is_last, ingress, egress, successor, hop, body}
-use Rattle.epic_fields.specs.HopChecks.{hop_name, has_field, has_link}
-use Rattle.epic_beacon.specs.Store.{Store, generation_of}
+use Rattle.epic_fields.specs.HopChecks.{hop_name, has_link}
+use Rattle.epic_beacon.specs.Store.{Store}
 use Rattle.epic_ledger.specs.History.{History, Emission, emission_at, emitted, step_of}
-use Rattle.epic_ledger.specs.Facts.{Pass, packet_at, facts_of, issues_in, as_issue, pass_name}
-use Rattle.epic_ledger.specs.Lawful.{FitsPass, Fits, IsEmission, IsLast, IsLawful}
+use Rattle.epic_ledger.specs.Facts.{Pass, packet_at, facts_of, as_issue, pass_name}
+use Rattle.epic_ledger.specs.Lawful.{FitsPass, IsEmission, IsLawful}
 use Rattle.epic_ledger.specs.declared.event.Event.{Event}
 use Rattle.epic_ledger.specs.declared.event.Event.TheVariants as event
 use Rattle.epic_ledger.proofs.Growing.{emission_at-suc}
 use Rattle.epic_audit.specs.Events.{EventsKeep, EmissionsAddNothing, EmissionsAreLawful, with_emission}
 use Rattle.epic_audit.specs.Kept.{IsKeptPass, Kept}
-use Rattle.epic_world.specs.State.{as_roll, as_fetch, beacons_in, generation_in}
+use Rattle.epic_world.specs.State.{as_roll, as_fetch, beacons_in}
 use Rattle.epic_world.specs.Refining.{Refines}
 use Rattle.epic_world.specs.Turning.{most_emitted}
 use Rattle.epic_world.specs.Passing.{IsPassable, with_pass}

@@ -1,5 +1,5 @@
 -- The objects of a world go on standing for its state.
-use Rattle.std.proofs.Common.{◌≡◌, ℕ, ◌+◌, ◌≤◌, ◌<◌, Bool, true, false, List, [], ◌∷◌, ◌++◌, length, reverse, refl, sym, ◌∙◌, ap, subst, arith, append-nil}
+use Rattle.std.proofs.Common.{◌≡◌, ℕ, ◌+◌, ◌≤◌, Bool, true, false, List, [], ◌∷◌, ◌++◌, reverse, refl, sym, ◌∙◌, ap, subst, arith, append-nil}
 use Rattle.std.specs.Prelude.{Option, None, Some, filter_map, ◌||◌, ◌&&◌, ◌==◌}
 use Rattle.std.specs.List.{list_any, cons_option}
 use Rattle.std.proofs.lemmas.Bool.Decides.{nat_tests}
@@ -20,7 +20,7 @@ use Rattle.epic_ledger.specs.Lawful.{IsLast}
 use Rattle.epic_ledger.specs.declared.event.Event.{Event}
 use Rattle.epic_ledger.specs.declared.event.Event.TheVariants as event
 use Rattle.epic_audit.specs.Kept.{Kept}
-use Rattle.epic_world.specs.State.{State, start, as_roll, as_fetch, beacons_after, beacons_in, generations_in, generation_in}
+use Rattle.epic_world.specs.State.{as_roll, as_fetch, beacons_after, beacons_in, generations_in, generation_in}
 use Rattle.epic_world.specs.Stepped.{with_event}
 use Rattle.epic_world.specs.Refining.{Refines}
 use Rattle.epic_world.specs.Turning.{most_emitted}

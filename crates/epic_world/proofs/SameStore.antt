@@ -1,8 +1,7 @@
 -- Beacons are issued by the hops and the generations of a store alone.
-use Rattle.std.proofs.Common.{◌≡◌, ℕ, ◌/◌, ◌+◌, ◌==◌, ◌∷◌, [], not, replicate, List, refl}
-use Rattle.std.specs.Prelude.{is_none, Err, Result}
+use Rattle.std.proofs.Common.{◌≡◌, ℕ, ◌/◌, ◌+◌, ◌==◌, ◌∷◌, not, replicate}
+use Rattle.std.specs.Prelude.{is_none, Err}
 use Rattle.std.specs.Option.{option_map_or}
-use Rattle.epic_num.specs.declared.beacon_error.BeaconError.{BeaconError}
 use Rattle.epic_num.specs.declared.beacon_error.BeaconError.TheVariants.{NotCore, Unknown, Ended, TooLong, Loop, UnknownInterface}
 use Rattle.epic_num.specs.declared.hop.HopName.{HopName}
 use Rattle.epic_num.specs.declared.name.AsId.{AsId}

@@ -1,22 +1,21 @@
 -- The segments of the ended issues of a store.
 use Rattle.std.proofs.Common.{◌≡◌, ◌≢◌, ℕ, zero, suc, ◌+◌, ◌-◌, ◌≤◌, ◌<◌, ◌==◌, Bool, true, false, List, [], ◌∷◌, ◌++◌, length, map, refl, sym, ◌∙◌, ap, subst, arith, append-nil, inl, inr}
-use Rattle.std.specs.Prelude.{Option, None, Some, All, IsTrue, Result, Ok, Err, option_map, cond, filter, nat_eq, slice_get}
+use Rattle.std.specs.Prelude.{Option, None, Some, All, IsTrue, Err, option_map, cond, filter, nat_eq, slice_get}
 use Rattle.std.specs.List.{AllByRecursion, IsDistinct, range_with_len}
 use Rattle.std.specs.Option.{option_map_or}
-use Rattle.std.proofs.lemmas.Bool.{eqb-false, eqb-true, eq-eqb}
+use Rattle.std.proofs.lemmas.Bool.{eq-eqb}
 use Rattle.std.proofs.lemmas.Bool.Decides.{eqb_tells}
 use Rattle.std.proofs.lemmas.List.{map-append, map-id, length_push}
 use Rattle.std.proofs.lemmas.List.Elements.{All-append, All-cons, All-nil, filter-append}
 use Rattle.std.proofs.lemmas.List.FromFn.{map-range_with_len_more}
-use Rattle.epic_num.specs.Chains.{Issue, issue_at, is_ended, ended_issues}
+use Rattle.epic_num.specs.Chains.{Issue, is_ended, ended_issues}
 use Rattle.epic_num.specs.Segments.{is_well_formed, last_hop}
 use Rattle.epic_num.specs.declared.segment.SegHop.{SegHop}
-use Rattle.epic_num.specs.declared.segment.SegKind.{SegKind}
 use Rattle.epic_num.specs.declared.segment.SegKind.TheVariants.{Core}
 use Rattle.epic_num.specs.declared.segment.Segment.{Segment}
 use Rattle.epic_path.specs.Routes.{last_issue}
 use Rattle.epic_beacon.specs.Chained.{AreChained}
-use Rattle.epic_beacon.specs.Hops.{hop_of, last_hops, IsSegment, IsUnended, Segments}
+use Rattle.epic_beacon.specs.Hops.{hop_of, last_hops, IsSegment, Segments}
 use Rattle.epic_beacon.specs.declared.beacon.Beacon.{Beacon}
 use Rattle.epic_beacon.specs.declared.segment.SegmentError.{SegmentError}
 use Rattle.epic_beacon.specs.declared.segment.SegmentError.TheVariants.{Unknown, NotEnded}

@@ -1,6 +1,6 @@
 -- What a router's answer makes of the state.
-use Rattle.std.proofs.Common.{◌≡◌, ℕ, zero, suc, ◌+◌, ◌≤◌, ◌<◌, ◌==◌, Bool, true, false, List, [], ◌∷◌, length, refl, sym, ◌∙◌, ap, subst, arith}
-use Rattle.std.specs.Prelude.{Option, None, Some, Ok, Contains, slice_index, slice_index_or, if◌then◌else◌}
+use Rattle.std.proofs.Common.{◌≡◌, ℕ, zero, suc, ◌+◌, ◌≤◌, ◌<◌, ◌==◌, Bool, true, List, [], ◌∷◌, length, refl, sym, ◌∙◌, ap, subst, arith}
+use Rattle.std.specs.Prelude.{None, Some, Ok, Contains, slice_index, slice_index_or}
 use Rattle.std.proofs.lemmas.Bool.{eqb-true, lt-ltb, le-ltb}
 use Rattle.std.proofs.Math.ListN.{length-set}
 use Rattle.std.proofs.lemmas.List.Elements.{All-set}
@@ -9,7 +9,6 @@ use Rattle.epic_num.specs.Levels.{is_first_byte}
 use Rattle.epic_num.specs.declared.answer.Answer.{Answer}
 use Rattle.epic_num.specs.declared.name.AsId.{AsId}
 use Rattle.epic_num.specs.declared.passed.Place.{Place}
-use Rattle.epic_num.specs.declared.passed.Place.TheVariants.{Host}
 use Rattle.epic_num.specs.declared.passed.PassResult.TheVariants.{Turned, Full}
 use Rattle.epic_num.specs.declared.turn.Turn.{Turn}
 use Rattle.epic_num.specs.declared.turn.Turn.TheVariants.{Forward, Deliver, Refused}
@@ -29,7 +28,7 @@ use Rattle.epic_audit.specs.Verdicts.{hop_verdict}
 use Rattle.epic_world.specs.State.{State, generation_in}
 use Rattle.epic_world.specs.Stepped.{Steps, answered}
 use Rattle.epic_world.specs.Next.{next_turn}
-use Rattle.epic_world.specs.Turning.{most_emitted, passed, accepted_at, due_behind, due_of, turned_by, turned_at}
+use Rattle.epic_world.specs.Turning.{most_emitted, passed, accepted_at, due_of, turned_by, turned_at}
 use Rattle.epic_world.specs.Passing.{IsPassable, with_pass}
 
 -- a packet that a router sends on
@@ -71,7 +70,8 @@ stays_passable t a generation p left h = record {
 pub still_there : (t : Network) (a : AsId) (generation : ℕ) (p left : Contents) → IsPassable t a generation p left → p.current < hop_count left
 still_there t a generation p left h = subst (λ (r : Route). p.current < length r.hops) (sym h.same_route) h.there
 
-only : (g x : ℕ) → Contains (g ∷ []) x → x ≡ g
+-- the one generation that was tried
+pub only : (g x : ℕ) → Contains (g ∷ []) x → x ≡ g
 only g x h = at h.0 h.1 h.2
   where
     at : (k : ℕ) → k < 1 → slice_index_or (g ∷ []) k x ≡ x → x ≡ g
@@ -148,14 +148,24 @@ unfolding accepted_at
 accepts t s a iface bytes turn due generation answer h e f =
     (e, λ i. record { moment = s.moment; steps = s.steps + 1; history = f i })
 
+pub room_at : (t : Network) (s : State) (a : AsId) (iface : ℕ) (bytes : List ℕ) → emitted s.history.emissions + length bytes ≤ most_emitted
+    → turned_at t s a iface bytes ≡ turned_by t s a iface bytes (turn_of t a (generation_in s.history.events a ∷ []) iface s.moment bytes)
+unfolding turned_at
+room_at t s a iface bytes room = rw (le-ltb most_emitted (emitted s.history.emissions + length bytes) room) refl
+
+pub full_at : (t : Network) (s : State) (a : AsId) (iface : ℕ) (bytes : List ℕ) → most_emitted < emitted s.history.emissions + length bytes
+    → turned_at t s a iface bytes ≡ answered s (passed a iface Full 0 [])
+unfolding turned_at
+full_at t s a iface bytes full = rw (lt-ltb most_emitted (emitted s.history.emissions + length bytes) full) refl
+
+known_turn : (t : Network) (s : State) (a : AsId) (iface : ℕ) (bytes : List ℕ) → has t a ≡ true → next_turn t s a iface bytes ≡ turned_at t s a iface bytes
+unfolding next_turn
+known_turn t s a iface bytes known = rw known refl
+
 pub room_turn : (t : Network) (s : State) (a : AsId) (iface : ℕ) (bytes : List ℕ) → has t a ≡ true → emitted s.history.emissions + length bytes ≤ most_emitted
     → next_turn t s a iface bytes ≡ turned_by t s a iface bytes (turn_of t a (generation_in s.history.events a ∷ []) iface s.moment bytes)
-unfolding next_turn turned_at
-room_turn t s a iface bytes known room =
-    rw (known, le-ltb most_emitted (emitted s.history.emissions + length bytes) room) refl
+room_turn t s a iface bytes known room = known_turn t s a iface bytes known ∙ room_at t s a iface bytes room
 
 pub full_turn : (t : Network) (s : State) (a : AsId) (iface : ℕ) (bytes : List ℕ) → has t a ≡ true → most_emitted < emitted s.history.emissions + length bytes
     → next_turn t s a iface bytes ≡ answered s (passed a iface Full 0 [])
-unfolding next_turn turned_at
-full_turn t s a iface bytes known full =
-    rw (known, lt-ltb most_emitted (emitted s.history.emissions + length bytes) full) refl
+full_turn t s a iface bytes known full = known_turn t s a iface bytes known ∙ full_at t s a iface bytes full

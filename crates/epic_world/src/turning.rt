@@ -17,8 +17,8 @@ ghost use Rattle.epic_world.specs.Turning.{due_behind, due_of, passed};
 
 use crate::World;
 use crate::laws::keeps;
-use crate::stand_in::verdict_hop;
 use arrayvec::ArrayVec;
+use epic_audit::verdict_hop;
 use epic_ledger::{Event, Ledger};
 use epic_num::{
     Answer, AsId, HostId, OutOfMemory, PassResult, Passed, Place, Refusal, Turn, Verdict,

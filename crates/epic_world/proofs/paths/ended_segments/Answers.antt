@@ -1,4 +1,4 @@
-use Rattle.std.proofs.Common.{◌≡◌, ◌+◌, sym, subst, ap, ◌∙◌, arith, length}
+use Rattle.std.proofs.Common.{◌≡◌, ◌+◌, sym, subst, arith, length}
 use Rattle.epic_world.proofs.Segmented.{AreEnded, AreSegments, none_ended, one_ended, none_more_ended, not_ended, all_ended}
 use Rattle.epic_world.proofs.paths.ended_segments.Goals as goal
 use Rattle.epic_world.proofs.paths.ended_segments.Goals.{in-Ok+in_ok-push-in-Ok, in-Err, After-loop-before}

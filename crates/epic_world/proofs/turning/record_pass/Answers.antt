@@ -1,6 +1,4 @@
-use Rattle.std.proofs.Common.{◌≡◌, sym, subst, refl}
 use Rattle.epic_ledger.specs.History.{Emission}
-use Rattle.epic_ledger.specs.Lawful.{FitsPass}
 use Rattle.epic_world.proofs.Passages.{pass_fits}
 use Rattle.epic_world.proofs.turning.record_pass.Goals as goal
 

@@ -1,4 +1,4 @@
-use Rattle.std.proofs.Common.{◌≡◌, ◌+◌, ◌∙◌, sym, ap, subst, inl, inr}
+use Rattle.std.proofs.Common.{◌≡◌, ◌+◌, ◌∙◌, sym, ap, subst}
 use Rattle.std.specs.Prelude.{◌⊎◌, Ok, Err}
 use Rattle.epic_num.specs.declared.answer.Answer.TheVariants.{Issued}
 use Rattle.epic_num.specs.declared.beacon_error.BeaconError.TheVariants.{OutOfMemory}

@@ -1,9 +1,9 @@
-use Rattle.std.proofs.Common.{◌≡◌, true, ◌≤◌, ◌+◌, ◌∙◌, sym, ap, subst, refl, arith}
-use Rattle.std.specs.Prelude.{Ok, Result}
+use Rattle.std.proofs.Common.{◌≡◌, true, ◌+◌, ◌∙◌, sym, ap, subst, refl, arith}
+use Rattle.std.specs.Prelude.{Ok}
 use Rattle.epic_num.specs.declared.answer.Answer.TheVariants.{Fetched, Known}
 use Rattle.epic_topo.specs.Network.{has}
 use Rattle.epic_keys.specs.Fetches.{Fetches, Fetch}
-use Rattle.epic_ledger.specs.History.{History, step_of}
+use Rattle.epic_ledger.specs.History.{step_of}
 use Rattle.epic_ledger.specs.declared.event.Event.{Event}
 use Rattle.epic_ledger.specs.declared.event.Event.TheVariants as event
 use Rattle.epic_world.specs.Next.{next_fetch}
@@ -11,7 +11,7 @@ use Rattle.epic_world.specs.Refining.{Refines, Standing}
 use Rattle.epic_world.specs.State.{State}
 use Rattle.epic_world.specs.Stepped.{Steps, answered, recorded, with_event}
 use Rattle.epic_world.proofs.Answering.{same_known, new_fetch, known_fetch}
-use Rattle.epic_world.proofs.Refined.{fetched, later, same_history}
+use Rattle.epic_world.proofs.Refined.{fetched, later}
 use Rattle.epic_world.proofs.world.World.fetch.Goals as goal
 
 pub push-requires-clause-last : goal.push-requires-clause-last

@@ -1,13 +1,12 @@
-use Rattle.std.proofs.Common.{◌≡◌, ◌≤◌, ◌<◌, ◌+◌, ◌∷◌, [], List, ℕ, true, length, ◌∙◌, sym, ap, subst, refl, arith}
-use Rattle.std.specs.Prelude.{Ok, Some, None}
+use Rattle.std.proofs.Common.{◌≡◌, ◌≤◌, ◌<◌, ◌+◌, ◌∷◌, [], true, length, ◌∙◌, sym, ap, subst, arith}
+use Rattle.std.specs.Prelude.{Ok, None}
 use Rattle.epic_num.specs.Levels.{is_first_byte}
 use Rattle.epic_num.specs.declared.passed.PassResult.TheVariants.{Turned, Full}
 use Rattle.epic_num.specs.declared.turn.Turn.{Turn}
 use Rattle.epic_topo.specs.Network.{has}
 use Rattle.epic_layout.proofs.Cuts.{IsBytes-from}
-use Rattle.epic_layout.specs.Contents.{hop_count, IsBytes}
+use Rattle.epic_layout.specs.Contents.{hop_count}
 use Rattle.epic_layout.specs.Layout.{fault, parse}
-use Rattle.epic_layout.specs.Route.{Route}
 use Rattle.epic_router.specs.Accepted.{IsRightTurn}
 use Rattle.epic_router.specs.Turns.{turn_of, bytes_after}
 use Rattle.epic_ledger.specs.History.{History, emitted}
@@ -16,11 +15,11 @@ use Rattle.epic_ledger.specs.Facts.{facts_of}
 use Rattle.epic_ledger.specs.Lawful.{IsEmission}
 use Rattle.epic_audit.specs.Verdicts.{hop_verdict}
 use Rattle.epic_world.specs.Next.{next_turn}
-use Rattle.epic_world.specs.Passing.{IsPassable, with_pass}
+use Rattle.epic_world.specs.Passing.{with_pass}
 use Rattle.epic_world.specs.Refining.{Refines, Standing}
 use Rattle.epic_world.specs.State.{State, generation_in}
 use Rattle.epic_world.specs.Stepped.{Steps, answered}
-use Rattle.epic_world.specs.Turning.{most_emitted, passed, accepted_at, due_of, turned_by}
+use Rattle.epic_world.specs.Turning.{most_emitted, passed, turned_by}
 use Rattle.epic_world.proofs.Passages.{ledger_keeps, passed_on}
 use Rattle.epic_world.proofs.Turned.{SentOn, sent_on, not_sent, stays_passable, still_there, accepts, room_turn, full_turn}
 use Rattle.epic_world.proofs.world.World.turn.Goals as goal
