@@ -5,7 +5,7 @@ use Rattle.std.specs.List.{list_any, range_with_len}
 use Rattle.std.specs.Option.{option_map_or}
 use Rattle.std.proofs.lemmas.Bool.{or_cases, or_parts, not-true, not-false}
 use Rattle.std.proofs.lemmas.List.FromFn.{length-range_with_len, get_or-range_with_len}
-use Rattle.std.proofs.lemmas.Option.{same_Some, slice_get_within, slice_get-get_or, get_or_from_slice_get}
+use Rattle.std.proofs.lemmas.Option.{same_Some, slice_get_within, get_or_from_slice_get}
 use Rattle.epic_num.specs.declared.hop.HopName.{HopName}
 use Rattle.epic_num.specs.declared.key_name.Holder.{Holder}
 use Rattle.epic_num.specs.declared.key_name.Holder.TheVariants.{As, Host}
@@ -18,8 +18,10 @@ use Rattle.epic_ledger.specs.Queries.{reveal_of, is_pass_of}
 use Rattle.epic_audit.specs.Clauses.{is_level, sent_as, is_sent_as, IsPassedOn, IsCovered, ArePassed, DestOk}
 use Rattle.epic_audit.specs.Kept.{AreApart}
 use Rattle.epic_audit.specs.Reveals.{IsRevealed, is_revealed}
-use Rattle.epic_audit.specs.Verdicts.{no_name, Uncovered, sent_hop, is_uncovered, uncovered_in, uncovered, is_twin_pass, twin_pass}
+use Rattle.epic_audit.specs.declared.uncovered.Uncovered.{Uncovered}
+use Rattle.epic_audit.specs.Verdicts.{no_name, sent_hop, is_uncovered, uncovered_in, uncovered, is_twin_pass, twin_pass}
 use Rattle.epic_audit.proofs.Finds.{found, missing, found_only, any_there, none_there}
+use Rattle.epic_audit.proofs.Walked.{range_at}
 use Rattle.epic_audit.proofs.Tests.{SentAs, is_sent_as-Decides, is_pass_of-Decides, TwinPassed, is_twin_pass-Decides}
 
 -- ---- reveals
@@ -82,15 +84,7 @@ module _ (f : Facts) (x : HopName) (p : Contents) (i : ℕ) where
       let passes = (is_pass_of-Decides x p i is.pass).1 (record { first_is = is.first_is; name_is = is.name_is; src_is = is.src_is; ts_is = is.ts_is; hop_is = is.hop_is }) in
       cc
 
-range_at : (n i : ℕ) → i < n → slice_get (range_with_len 0 n) i ≡ Some i
-range_at n i lt =
-    let inside : i < length (range_with_len 0 n) = omega (arith, length-range_with_len 0 n) in
-    slice_get-get_or (range_with_len 0 n) i 0 inside ∙ ap Some (get_or-range_with_len 0 n i 0 lt ∙ zero_more i)
-  where
-    zero_more : (k : ℕ) → 0 + k ≡ k
-    zero_more k = omega arith
-
-range_within : (n k i : ℕ) → slice_get (range_with_len 0 n) k ≡ Some i → i < n
+pub range_within : (n k i : ℕ) → slice_get (range_with_len 0 n) k ≡ Some i → i < n
 range_within n k i e =
     let lt : k < length (range_with_len 0 n) = slice_get_within (range_with_len 0 n) k i e in
     let inside : k < n = omega (arith, length-range_with_len 0 n) in

@@ -97,7 +97,7 @@ on_path r k w e =
     (eqb-true w.hop k both.0, (bytes_eq-Decides (path_bytes w.packet.route) (path_bytes r)).0 both.1)
 
 -- an accepted hop has the name that the hop of a packet with these path bytes has
-pass_name_is : (w : Pass) (p : Contents) (k : ℕ) → w.packet.route ≡ p.route → w.hop ≡ k → pass_name w ≡ hop_name w.asn w.generation p k
+pub pass_name_is : (w : Pass) (p : Contents) (k : ℕ) → w.packet.route ≡ p.route → w.hop ≡ k → pass_name w ≡ hop_name w.asn w.generation p k
 unfolding pass_name hop_name
 pass_name_is w p k same at i = record { asn = w.asn; generation = w.generation; body = body (same i) (at i) }
 

@@ -30,7 +30,7 @@ use Rattle.epic_audit.proofs.Chained.{chained, not_chained, collided_in_chain}
 use Rattle.epic_audit.proofs.Fields.{right_field, tagged_field, same_message}
 use Rattle.epic_audit.proofs.Queries.{issued, unissued, revealed, unrevealed, least_there, least_missing, sourced, unsourced}
 use Rattle.epic_audit.proofs.Tests.{is_sent_like-Decides, is_twin-Decides}
-use Rattle.epic_audit.proofs.Twins.{one_sigma, twin_issued, no_twin_issued, twin_was_sent, no_twin_sent}
+use Rattle.epic_audit.proofs.Alike.{one_sigma, twin_issued, no_twin_issued, twin_was_sent, no_twin_sent}
 
 module _ (t : Network) (f : Facts) (x : HopName) (p : Contents) (j : ℕ) (packets : ArePackets f) (kept : Kept t f) (packet : IsPacket p)
     (right : has_field t x p j ≡ true) (collides : (c : HopName × HopName) → broken_chain f x p j ≡ Some c → HaveOneLink t c.0 c.1) where

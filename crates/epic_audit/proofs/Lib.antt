@@ -1,16 +1,22 @@
 mod Finds
+pub mod Walked
+mod Narrowed
+pub mod Passed
+mod Before
 mod Tests
 mod Queries
 mod Chained
-mod Twins
+mod Alike
 mod Fields
 mod Hop
-mod Updates
+mod UpdateLaws
 mod Arrivals
 mod Dest
 pub mod Growth
 pub mod Keeping
 mod Lists
+mod Opened
+mod Calls
 mod Built
 mod Descent
 mod SegmentExamples

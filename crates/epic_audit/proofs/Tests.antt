@@ -14,7 +14,8 @@ use Rattle.epic_keys.specs.Tags.{sigma}
 use Rattle.epic_ledger.specs.Facts.{Sent, Pass, pass_name}
 use Rattle.epic_ledger.specs.Queries.{is_send_of, is_pass_of, same_path}
 use Rattle.epic_audit.specs.Clauses.{is_sent_like, is_sent_as}
-use Rattle.epic_audit.specs.Verdicts.{is_named, is_twin, is_child, is_twin_pass, Uncovered}
+use Rattle.epic_audit.specs.declared.uncovered.Uncovered.{Uncovered}
+use Rattle.epic_audit.specs.Verdicts.{is_named, is_twin, is_child, is_twin_pass}
 
 pub is_named-Decides : (x : HopName) (o : Option HopName) → Decides (is_named x o) (o ≡ Some x)
 is_named-Decides x None = (λ e. absurd (cc), λ e. absurd (cc))
@@ -94,12 +95,12 @@ pub is_twin_pass-Decides : (t : Network) (p : Contents) (u : Uncovered) (w : Pas
 unfolding is_twin_pass
 is_twin_pass-Decides t p u w =
     Decides-like _
-    (λ e. record { asn_is = e.0.0.0.0.0; sigma_is = e.0.0.0.0.1; first_is = e.0.0.0.1; src_is = e.0.0.1; ts_is = e.0.1; hop_is = e.1 })
-    (λ e. (((((e.asn_is, e.sigma_is), e.first_is), e.src_is), e.ts_is), e.hop_is))
+    (λ e. record { hop_is = e.0.0.0.0; ts_is = e.0.0.0.1; first_is = e.0.0.1; src_is = e.0.1; asn_is = e.1.0; sigma_is = e.1.1 })
+    (λ e. ((((e.hop_is, e.ts_is), e.first_is), e.src_is), (e.asn_is, e.sigma_is)))
     (Decides-and _ _
     (Decides-and _ _
     (Decides-and _ _
-    (Decides-and _ _ (is_twin-Decides t u.name (pass_name w)) (Decides-eqb w.packet.first p.first))
+    (Decides-and _ _ (Decides-eqb w.hop u.hop) (Decides-eqb w.packet.ts p.ts))
+    (Decides-eqb w.packet.first p.first))
     (same_host-Decides w.packet.src p.src))
-    (Decides-eqb w.packet.ts p.ts))
-    (Decides-eqb w.hop u.hop))
+    (is_twin-Decides t u.name (pass_name w)))

@@ -25,7 +25,8 @@ use Rattle.epic_audit.specs.Clauses.{is_level, IsIssued, IsChained, IsSourced, H
 use Rattle.epic_audit.specs.Collided.{HaveOneLink, HaveOneSigma}
 use Rattle.epic_audit.specs.Forged.{IsForgedIssue, IsForgedField, IsForgedUpdate, IsForgedDest}
 use Rattle.epic_audit.specs.Reveals.{IsRevealedAt}
-use Rattle.epic_audit.specs.Verdicts.{twin_issue, broken_chain, source_of, twin_sent, Uncovered, uncovered, has_update, twin_pass}
+use Rattle.epic_audit.specs.declared.uncovered.Uncovered.{Uncovered}
+use Rattle.epic_audit.specs.Verdicts.{twin_issue, broken_chain, source_of, twin_sent, uncovered, has_update, twin_pass}
 
 -- ---- hops
 

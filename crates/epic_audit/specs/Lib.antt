@@ -9,4 +9,5 @@ pub mod Kept
 pub mod Laws
 pub mod Made
 pub mod Reveals
+pub mod Searches
 pub mod Verdicts

@@ -23,6 +23,7 @@ use Rattle.epic_fields.specs.PacketTags.{field_name, dest_name, update_of}
 use Rattle.epic_ledger.specs.Facts.{Facts, Sent, Pass, pass_name, sent_name}
 use Rattle.epic_ledger.specs.Queries.{issue_of, is_pass_of, chain_pass}
 use Rattle.epic_audit.specs.Clauses.{is_level, higher, lower, is_sent_like, sent_as}
+use Rattle.epic_audit.specs.declared.uncovered.Uncovered.{Uncovered}
 use Rattle.epic_audit.specs.Reveals.{is_revealed, reveal_step, least_step}
 
 -- what stands in the place of a hop that isn't there
@@ -120,11 +121,6 @@ hop_verdict t f x p j =
 
 -- ---- what is asked about a packet at its destination
 
--- a hop that the source sent the packet over, and that isn't covered
-pub record Uncovered : Type 0 where
-  pub hop : ℕ
-  pub name : HopName
-
 -- hop i of a sent packet
 abbrev pub sent_hop : Facts → Sent → ℕ → Uncovered
 sent_hop f s i = record { hop = i; name = unwrap_or (sent_name f.issues s i) no_name }
@@ -153,7 +149,7 @@ has_update t p u = bytes_eq (field p u.hop) (update_of t u.name p u.hop)
 -- another hop of the AS with the authenticator was accepted at the index of a packet with p's first byte, source and timestamp
 unfoldable pub is_twin_pass : Network → Contents → Uncovered → Pass → Bool
 is_twin_pass t p u w =
-    is_twin t u.name (pass_name w) && w.packet.first == p.first && same_host w.packet.src p.src && w.packet.ts == p.ts && w.hop == u.hop
+    w.hop == u.hop && w.packet.ts == p.ts && w.packet.first == p.first && same_host w.packet.src p.src && is_twin t u.name (pass_name w)
 
 -- the name of the first that was
 unfoldable pub twin_pass : Network → Facts → Contents → Uncovered → Option HopName

@@ -1,5 +1,5 @@
 -- The beacons of a row of issues.
-use Rattle.std.proofs.Common.{rules, ◌≡◌, refl, ◌∙◌, sym, ap, ℕ, List, [], ◌∷◌, ◌++◌, map, length, append-nil, append_assoc}
+use Rattle.std.proofs.Common.{◌≡◌, refl, ◌∙◌, sym, ap, List, [], ◌∷◌, ◌++◌, append-nil, append_assoc}
 use Rattle.std.proofs.lemmas.List.{map-append}
 use Rattle.epic_num.specs.Chains.{Issue}
 use Rattle.epic_topo.specs.Network.{Network}
@@ -11,7 +11,7 @@ use Rattle.epic_world.specs.State.{kind_after, beacons_after, beacons_in}
 -- one more issue
 pub after_one_more : (t : Network) (beacons : List Beacon) (issues : List Issue) (i : Issue)
     → beacons_after t beacons (issues ++ i ∷ [])
-      ≡ beacons_after t beacons issues ++ beacon_of t i.name i.parent (kind_after t (beacons_after t beacons issues) i) ∷ []
+    ≡ beacons_after t beacons issues ++ beacon_of t i.name i.parent (kind_after t (beacons_after t beacons issues) i) ∷ []
 unfolding beacons_after
 after_one_more t beacons [] i = refl
 after_one_more t beacons (j ∷ issues) i = after_one_more t (beacons ++ beacon_of t j.name j.parent (kind_after t beacons j) ∷ []) issues i

@@ -1,1 +1,11 @@
+mod Answering
 mod BeaconsIn
+mod Joined
+mod Judged
+mod Passages
+mod Refined
+mod SameStore
+mod Segmented
+mod Soundness
+mod StepLaws
+mod Turned

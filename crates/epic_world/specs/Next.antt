@@ -1,27 +1,18 @@
 -- What a step of one actor answers, and the state after it.
-use Rattle.std.specs.Prelude.{ℕ, ◌+◌, Bool, true, false, not, nat_lt, if◌then◌else◌, List, [], ◌∷◌, ◌++◌, length, Option, None, Some, Result, Ok, Err}
-use Rattle.std.specs.Option.{option_map_or}
-use Rattle.epic_num.specs.declared.answer.Answer.{Answer}
-use Rattle.epic_num.specs.declared.answer.Answer.TheVariants.{Moment, Issued, Fetched, Known, Paths, Passed, Refused}
-use Rattle.epic_num.specs.declared.answer.Refusal.{Refusal}
+use Rattle.std.specs.Prelude.{ℕ, ◌+◌, ◌≤◌, Bool, true, false, not, nat_lt, if◌then◌else◌, List, length, Result, Ok, Err}
+use Rattle.epic_num.specs.declared.answer.Answer.TheVariants.{Moment, Issued, Fetched, Known, Paths}
 use Rattle.epic_num.specs.declared.answer.Refusal.TheVariants.{UnknownAs, Beacon as BeaconRefusal, TooManyPaths}
 use Rattle.epic_num.specs.declared.beacon_error.BeaconError.{BeaconError}
 use Rattle.epic_num.specs.declared.command.Command.{Command}
 use Rattle.epic_num.specs.declared.command.Command.TheVariants as command
+use Rattle.epic_num.specs.declared.moment.TheConstants.{MAX_MOMENT}
 use Rattle.epic_num.specs.declared.name.AsId.{AsId}
-use Rattle.epic_num.specs.declared.passed.Place.{Place}
-use Rattle.epic_num.specs.declared.passed.Place.TheVariants.{Router, Host}
-use Rattle.epic_num.specs.declared.passed.PassResult.TheVariants.{Turned, Full}
 use Rattle.epic_num.specs.declared.path_ref.PathRef.{PathRef}
-use Rattle.epic_num.specs.declared.turn.Turn.{Turn}
-use Rattle.epic_num.specs.declared.turn.Turn.TheVariants.{Forward, Deliver, Refused as TurnRefused}
 use Rattle.epic_topo.specs.Network.{Network, has}
 use Rattle.epic_beacon.specs.declared.beacon.Beacon.{Beacon}
 use Rattle.epic_beacon.specs.Issuing.{originated, extended}
 use Rattle.epic_path.specs.Routes.{all_lawful}
-use Rattle.epic_ledger.specs.History.{History}
 use Rattle.epic_ledger.specs.Facts.{issues_in}
-use Rattle.epic_ledger.specs.declared.event.Event.{Event}
 use Rattle.epic_ledger.specs.declared.event.Event.TheVariants as event
 use Rattle.epic_world.specs.State.{State, store_in, segments_in, is_known_in}
 use Rattle.epic_world.specs.Turning.{turned_at}
@@ -84,6 +75,11 @@ is_taken (command.Fetch source owner epoch) = true
 is_taken (command.Paths from to) = true
 is_taken (command.Turn a iface bytes) = true
 is_taken _ = false
+
+-- the moment of a command is one that fits
+unfoldable pub HasMoment : Command → Type 0
+HasMoment (command.At moment) = moment ≤ MAX_MOMENT
+HasMoment _ = Unit {0}
 
 -- one step. A command that isn't taken yet changes nothing but the number of steps.
 unfoldable pub next : Network → State → Command → Stepped

@@ -1,5 +1,5 @@
 -- How the objects of a world stand for its state.
-use Rattle.std.specs.Prelude.{◌≡◌, ℕ, ◌≤◌, List, length, filter_map}
+use Rattle.std.specs.Prelude.{◌≡◌, ℕ, ◌≤◌, length, filter_map}
 use Rattle.std.specs.List.{list_any}
 use Rattle.epic_num.specs.declared.moment.TheConstants.{MAX_MOMENT}
 use Rattle.epic_num.specs.declared.name.AsId.{AsId}

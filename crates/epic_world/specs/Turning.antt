@@ -1,5 +1,5 @@
 -- A packet at a router: what the ledger records of it, and the verdict on the hop that is accepted.
-use Rattle.std.specs.Prelude.{ℕ, ◌+◌, nat_lt, if◌then◌else◌, List, [], ◌∷◌, ◌++◌, length, slice_index}
+use Rattle.std.specs.Prelude.{ℕ, ◌+◌, nat_lt, if◌then◌else◌, List, [], ◌∷◌, ◌++◌, length, slice_index, Option, None, Some}
 use Rattle.std.specs.Option.{option_map_or}
 use Rattle.epic_num.specs.declared.answer.Answer.{Answer}
 use Rattle.epic_num.specs.declared.answer.Answer.TheVariants.{Passed}
@@ -51,6 +51,12 @@ accepted_at t s a iface bytes turn due generation =
 -- the other end of the link at an interface
 unfoldable pub due_behind : Network → AsId → ℕ → Place
 due_behind t a out = option_map_or (λ far. Router far.0 far.1) (neighbour t a out) (Router a out)
+
+-- where the packet is due that a router's answer sends on
+unfoldable pub due_of : Network → AsId → Turn → Option Place
+due_of t a (Forward out hops generations) = Some (due_behind t a out)
+due_of t a (Deliver host hops generations) = Some (Host (record { asn = a; host = host }))
+due_of t a (Refused check hop) = None
 
 -- what a router's answer makes of the state
 unfoldable pub turned_by : Network → State → AsId → ℕ → List ℕ → Turn → Stepped

@@ -1,38 +1,45 @@
-ghost use Rattle.std.specs.Prelude.{◌≡◌, ◌<◌, ◌≤◌, ◌-◌, ◌^◌, IsTrue};
-ghost use Rattle.epic_num.specs.declared.moment.TheConstants.{MAX_MOMENT};
-ghost use Rattle.epic_audit.specs.Kept.{Kept};
+ghost use Rattle.std.specs.Prelude.{◌≡◌, ◌-◌, ◌^◌, ◌<◌, ◌≤◌, IsTrue};
 ghost use Rattle.epic_ledger.specs.Facts.{facts_of};
-ghost use Rattle.epic_world.specs.Next.{next, is_taken};
-ghost use Rattle.epic_world.specs.State.{start};
-ghost use Rattle.epic_world.specs.Stepped.{Steps};
+ghost use Rattle.epic_ledger.specs.Lawful.{IsLawful};
+ghost use Rattle.epic_audit.specs.Kept.{Kept};
 
 use epic_audit::ledgers;
+use epic_beacon::Beacons;
+use epic_keys::KeyStore;
 use epic_ledger::Ledger;
-use epic_num::{Answer, Command, OutOfMemory};
+use epic_num::{Answer, Command, MAX_MOMENT, OutOfMemory};
 use epic_topo::Topology;
 use std::alloc::Global;
 use std::marker::Model;
 
+/// The actors of a topology, and the ledger of what they did.
 #[derive(Drop)]
 pub struct World {
-    topo: Topology,
-    steps: u32,
-    ledger: Ledger,
+    pub(crate) topo: Topology,
+    pub(crate) beacons: Beacons,
+    pub(crate) keys: KeyStore,
+    pub(crate) ledger: Ledger,
+    // The present moment, in microseconds.
+    pub(crate) moment: u64,
+    pub(crate) steps: u32,
 }
 
 impl Model for World {
-    ghost use Rattle.epic_world.specs.Refining.{Standing};
-    ghost use Rattle.epic_audit.specs.Kept.{Kept};
-    ghost use Rattle.epic_ledger.specs.Facts.{facts_of};
+    ghost use Rattle.epic_world.specs.Refining.{Refines, Standing};
 
     ghost Value = { Standing };
 
-    ghost view = { λ w. record { network = w.topo; state = record { moment = 0; steps = w.steps; history = w.ledger.history } } };
+    ghost view = { λ w. record { network = w.topo; state = record { moment = w.moment; steps = w.steps; history = w.ledger.history } } };
 
-    ghost invariant = { λ w. Kept w.topo (facts_of w.ledger.history) };
+    ghost invariant = { λ w. Refines w.topo w.beacons w.keys w.moment w.steps w.ledger.history };
 }
 
 impl World {
+    ghost use Rattle.epic_world.specs.State.{start};
+    ghost use Rattle.epic_world.specs.Stepped.{Steps};
+    ghost use Rattle.epic_world.specs.Next.{next, is_taken, HasMoment};
+
+    /// A world in which nothing has happened. It takes no memory.
     pub fn new(alloc: Global, topo: Topology) -> World
         ensures network { result.network ≡ topo }
         ensures state { result.state ≡ start }
@@ -40,15 +47,27 @@ impl World {
         ledgers();
         World {
             topo,
-            steps: 0,
+            beacons: Beacons::new(alloc),
+            keys: KeyStore::new(alloc),
             ledger: Ledger::new(alloc),
+            moment: 0,
+            steps: 0,
         }
     }
 
+    /// How many steps there were.
     pub fn steps(&self) -> u32
         ensures { result ≡ self.now.state.steps }
     {
         self.steps
+    }
+
+    /// The present moment, in microseconds.
+    pub fn now(&self) -> u64
+        ensures value { result ≡ self.now.state.moment }
+        ensures fits { result ≤ MAX_MOMENT }
+    {
+        self.moment
     }
 
     pub fn topology(&self) -> &Topology
@@ -57,6 +76,7 @@ impl World {
         &self.topo
     }
 
+    /// What happened.
     pub fn ledger(&self) -> &Ledger
         ensures history { result.now.history ≡ self.now.state.history }
         ensures kept { Kept self.now.network (facts_of self.now.state.history) }
@@ -64,12 +84,27 @@ impl World {
         &self.ledger
     }
 
-    pub fn step(&mut self, _alloc: Global, _command: &Command) -> Result<Answer, OutOfMemory>
-        requires taken { IsTrue (is_taken _command.now) }
+    /// One step, of a command that worlds take so far. Where memory is wanting, nothing has changed.
+    #[tactic(auto, unfolding(crate::specs::Next::next, crate::specs::Next::is_taken, crate::specs::Next::HasMoment))]
+    pub fn step(&mut self, alloc: Global, command: &Command) -> Result<Answer, OutOfMemory>
+        requires taken { IsTrue (is_taken command.now) }
+        requires fits { HasMoment command.now }
         requires few { self.old.state.steps < 2 ^ 30 - 1 }
-        ensures step { Steps (next self.old.network self.old.state _command.now) result self.old.state self.new.state }
+        ensures step { Steps (next self.old.network self.old.state command.now) result self.old.state self.new.state }
         ensures network { self.new.network ≡ self.old.network }
     {
-        Err(OutOfMemory)
+        match command {
+            Command::At { moment } => Ok(self.at(*moment)),
+            Command::Originate { a, out, exp } => self.originate(*a, *out, *exp),
+            Command::Extend { parent, out, exp } => self.extend(*parent, *out, *exp),
+            Command::Fetch {
+                source,
+                owner,
+                epoch,
+            } => self.fetch(*source, *owner, *epoch),
+            Command::Paths { from, to } => self.paths(alloc, *from, *to),
+            Command::Turn { a, iface, bytes } => self.turn(alloc, *a, *iface, bytes.as_slice()),
+            _ => unreachable!(),
+        }
     }
 }
