@@ -13,7 +13,14 @@ use Rattle.epic_text.specs.RunScript.{run_rule}
 use Rattle.epic_app.specs.declared.run_files.TheConstants.{TOPOLOGY_LIMIT, SCRIPT_LIMIT}
 use Rattle.epic_world.specs.Run.{run}
 use Rattle.epic_app.specs.RunReport.{has_alarm}
-use Rattle.epic_world.specs.Laws.{VerdictsHold}
+use Rattle.epic_topo.specs.Lawful.{IsTopology}
+use Rattle.epic_topo.proofs.ReadLawful.{read_lawful}
+use Rattle.epic_topo.proofs.Steps.{at_ok}
+use Rattle.epic_world.specs.Run.{run_from}
+use Rattle.epic_world.specs.Sound.{CarriesBytes, IsSoundStep, RunsAreSound, StartIsSound, VerdictsHold}
+use Rattle.epic_world.specs.State.{start}
+use Rattle.epic_app.specs.RunFiles.{IsTakenUp}
+use Rattle.epic_app.proofs.ScriptCommands.{commands_taken}
 use Rattle.epic_app.specs.declared.hop_file.HopCommand.{HopCommand}
 use Rattle.epic_text.specs.Script.{Fault, commands_of}
 use Rattle.epic_app.specs.HopFile.{hop_rule}
@@ -122,14 +129,22 @@ from_script t r true ending is below = absurd (omega (arith, ap (λ (e : Ending)
 from_script t (Ok commands) false ending is below = (commands, refl, sym is)
 from_script t (Err (line, kind)) false ending is below = absurd (omega (arith, ap (λ (e : Ending). e.status) is, below))
 
--- STAND-IN
-every_verdict_holds : (t : Network) (commands : List Command) → All (VerdictsHold t) (run t commands)
-unfolding VerdictsHold
-every_verdict_holds t commands = ?
+-- what each of a list keeps
+all_map : {X : Type 0} (P Q : X → Type 0) (xs : List X) → ((x : X) → P x → Q x) → All P xs → All Q xs
+all_map P Q xs f h = λ k d within. f d (h k d within)
 
-run_holds : (m n : List ℕ) (old new : World) (status : ℕ) (line : List ℕ) → EndsByFiles (Run m n) old new status line → status < 2
+every_verdict_holds : StartIsSound → RunsAreSound → (t : Network) (text script : List ℕ) (commands : List Command) → topology text ≡ Ok t → commands_of run_rule script ≡ Ok commands
+    → All (VerdictsHold t) (run t commands)
+unfolding run
+every_verdict_holds start_sound runs_sound t text script commands is are =
+    let lawful : IsTopology t = at_ok IsTopology (topology text) t is (read_lawful text) in
+    let bytes = all_map IsTakenUp CarriesBytes commands (λ c taken. taken.bytes) (commands_taken script commands are) in
+    let sound = (runs_sound t start commands lawful (start_sound t) bytes).0 in
+    all_map (IsSoundStep t) (VerdictsHold t) (run_from t start commands) (λ d step. step.verdicts) sound
+
+run_holds : StartIsSound → RunsAreSound → (m n : List ℕ) (old new : World) (status : ℕ) (line : List ℕ) → EndsByFiles (Run m n) old new status line → status < 2
     → RunHolds m n old new status
-run_holds m n old new status line by below =
+run_holds start_sound runs_sound m n old new status line by below =
     let below_two : by.ending.status < 2 = omega (arith, by.same_status, below) in
     let (first, second, are_contents, is_run) = run_contents m n by.contents by.ending by.is_ending in
     let (text, is_text, is_text_ending) = from_first first second by.ending is_run in
@@ -144,17 +159,17 @@ run_holds m n old new status line by below =
       is_network = is_network;
       commands = commands;
       are_commands = are;
-      hold = every_verdict_holds t commands;
+      hold = every_verdict_holds start_sound runs_sound t text script commands is_network are;
       report = rw decided at by.report;
       alarm = status_one (has_alarm (run t commands)) (has_alarm (run t commands)) status refl (by.same_status ∙ ap (λ (e : Ending). e.status) decided);
     }
 
-pub holds_under : (request : Option Request) (old new : World) (e f : ErrorSink) (status : ℕ) →
+pub holds_under : StartIsSound → RunsAreSound → (request : Option Request) (old new : World) (e f : ErrorSink) (status : ℕ) →
     EndsUnder request old new e f status → HoldsUnder request old new status
-holds_under None old new e f status ended = tt
-holds_under (Some (Hop key name)) old new e f status ended = λ below.
+holds_under start_sound runs_sound None old new e f status ended = tt
+holds_under start_sound runs_sound (Some (Hop key name)) old new e f status ended = λ below.
     let (line, by, tells) = ended.by_files (omega (arith, below)) in
     hop_holds key name old new status line by below
-holds_under (Some (Run m n)) old new e f status ended = λ below.
+holds_under start_sound runs_sound (Some (Run m n)) old new e f status ended = λ below.
     let (line, by, tells) = ended.by_files (omega (arith, below)) in
-    run_holds m n old new status line by below
+    run_holds start_sound runs_sound m n old new status line by below

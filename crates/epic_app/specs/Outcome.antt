@@ -9,7 +9,7 @@ use Rattle.epic_topo.specs.Network.{Network}
 use Rattle.epic_topo.specs.Reading.{topology as topology_of}
 use Rattle.epic_text.specs.RunScript.{run_rule}
 use Rattle.epic_world.specs.Run.{run}
-use Rattle.epic_world.specs.Laws.{VerdictsHold}
+use Rattle.epic_world.specs.Sound.{VerdictsHold}
 use Rattle.epic_app.specs.RunReport.{run_text, has_alarm}
 use Rattle.epic_app.specs.declared.hop_file.HopCommand.{HopCommand}
 use Rattle.epic_app.specs.declared.hop_answer.HopAnswer.{HopAnswer}

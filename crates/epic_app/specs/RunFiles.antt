@@ -1,5 +1,5 @@
 -- What the files of a run hold, or how the run ends without them.
-use Rattle.std.specs.Prelude.{◌≡◌, ℕ, ◌<◌, ◌≤◌, List, [], ◌∷◌, length, Option, Some, Result, Ok, Err, ⊤}
+use Rattle.std.specs.Prelude.{◌≡◌, ℕ, ◌<◌, ◌≤◌, List, [], ◌∷◌, length, Option, Some, Result, Ok, Err, true, ⊤}
 use Rattle.std.specs.Global.{Vec}
 use Rattle.epic_num.specs.declared.command.Command.{Command}
 use Rattle.epic_ports.specs.Faults.{Rose}
@@ -9,10 +9,18 @@ use Rattle.epic_topo.specs.Reading.{topology}
 use Rattle.epic_topo.specs.declared.fault.TopoError.TheVariants.{Bad}
 use Rattle.epic_text.specs.RunScript.{run_rule}
 use Rattle.epic_text.specs.Script.{Fault, commands_of}
+use Rattle.epic_world.specs.Next.{is_taken, HasMoment}
+use Rattle.epic_world.specs.Sound.{CarriesBytes}
 use Rattle.epic_app.specs.declared.end.End.{End}
 use Rattle.epic_app.specs.declared.end.End.TheVariants.{BadTopology, LongTopology, BadScript, LongScript, ReadFault, OutOfMemory}
 use Rattle.epic_app.specs.declared.run_files.TheConstants.{TOPOLOGY_LIMIT, SCRIPT_LIMIT}
 use Rattle.epic_app.specs.Outcome.{AsTold}
+
+-- a world takes the command, which is in its ranges
+pub record IsTakenUp (c : Command) : Type 0 where
+  pub taken : is_taken c ≡ true
+  pub moment : HasMoment c
+  pub bytes : CarriesBytes c
 
 -- the file holds bytes of a length within the limit, of which this is so
 pub record Within (contents : Option Files) (name : List ℕ) (limit : ℕ) (P : List ℕ → Type 0) : Type 0 where

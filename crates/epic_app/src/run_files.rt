@@ -1,9 +1,9 @@
 //! The files of a run: its topology and its script.
 
-ghost use Rattle.std.specs.Prelude.{◌≡◌, List, Option};
+ghost use Rattle.std.specs.Prelude.{◌≡◌, ◌≤◌, All, IfOk, length};
 ghost use Rattle.epic_ports.specs.Faults.{CountsOnly};
 ghost use Rattle.epic_ports.specs.Files.{KeepsFiles};
-ghost use Rattle.epic_app.specs.RunFiles.{ReadsScript, ReadsTopology};
+ghost use Rattle.epic_app.specs.RunFiles.{IsTakenUp, ReadsScript, ReadsTopology};
 
 use crate::end::End;
 use epic_num::Command;
@@ -51,6 +51,8 @@ pub fn script_in<'a, S: Store>(
 ) -> Result<Vec<Command>, End<'a>>
     ensures value { ReadsScript (S.contents store.old) name.entry.now
         (S.reads store.old name.entry.now) (S.reads store.new name.entry.now) result }
+    ensures few { IfOk result (λ commands. length commands.items ≤ 524288) }
+    ensures taken { IfOk result (λ commands. All IsTakenUp commands.items) }
     ensures contents { KeepsFiles (S.contents store.old) (S.contents store.new) }
     ensures reads { CountsOnly name.entry.now (S.reads store.old) (S.reads store.new) }
     ensures writes { S.writes store.new ≡ S.writes store.old }

@@ -8,6 +8,7 @@ ghost use Rattle.epic_text.specs.Counts.{counts_of, end_line, total};
 ghost use Rattle.epic_text.specs.Report.{IsToldAnswer, Shows, bytes_in, issued_name};
 ghost use Rattle.epic_world.specs.Next.{is_taken, next};
 ghost use Rattle.epic_world.specs.Run.{done_by, run};
+ghost use Rattle.epic_app.specs.RunFiles.{IsTakenUp};
 ghost use Rattle.epic_app.specs.RunReport.{ShowsBytes, answered_text, count_all, emission_bytes, has_alarm, is_carried, issued_in, run_text, step_text, verdicts_in};
 ghost use Rattle.epic_app.specs.Writing.{WriteFailsBy};
 
@@ -147,7 +148,7 @@ fn write_step<O: Sink>(
     counts: Counts,
     out: &mut O,
 ) -> Result<Counts, PortError>
-    requires taken { IsTrue (is_taken command.now) }
+    requires taken { IsTakenUp command.now }
     requires few { world.old.state.steps < 2 ^ 30 - 1 }
     requires room { total counts < 2 ^ 63 }
     ensures network { world.new.network ≡ world.old.network }
@@ -209,7 +210,7 @@ pub fn write_run<O: Sink>(
     commands: &[Command],
     out: &mut O,
 ) -> Result<bool, PortError>
-    requires taken { All (λ c. IsTrue (is_taken c)) commands.now }
+    requires taken { All IsTakenUp commands.now }
     requires few { length commands.now ≤ 524288 }
     ensures ok { OnOk result (Appends (O.written out.old) (O.written out.new)
         (run_text topo (run topo commands.now))) }

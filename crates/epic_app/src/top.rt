@@ -11,6 +11,7 @@ use crate::hop::hop;
 use crate::run::run;
 use crate::words::{hop_words, run_words};
 use epic_ports::{Sink, Store};
+use epic_world::runs_are_sound;
 use std::alloc::Global;
 
 /// Does what the words ask for, but for what is told to the errors.
@@ -68,6 +69,8 @@ pub fn epic<S: Store, O: Sink, E: Sink>(
         (error_sink (E.written err.new) (E.faults err.new))
         result }
 {
+    // What the report of a run claims rests on these laws.
+    runs_are_sound();
     let end = perform(alloc, words, store, out);
     tell(err, &end);
     end.status()

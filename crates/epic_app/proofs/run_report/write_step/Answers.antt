@@ -14,21 +14,21 @@ step_lines-requires-clause-alone g c =
     let t = c.args.world.now.network in
     let s = c.args.world.now.state in
     let after : Kept t (facts_of (next t s c.args.command.now).state.history) = rw (c.in-Ok.ensures.network, c.in-Ok.ensures.step.1) at c.ledger-2.ensures.kept in
-    rw (c.in-Ok.ensures.step.0) (told_alone t _ _ _ (told t s c.args.command.now (λ n. []) c.ledger.ensures.kept after c.requires.taken))
+    rw (c.in-Ok.ensures.step.0) (told_alone t _ _ _ (told t s c.args.command.now (λ n. []) c.ledger.ensures.kept after c.requires.taken.taken))
 
 pub step_lines-requires-clause-told : goal.step_lines-requires-clause-told
 step_lines-requires-clause-told g c = λ emissions.
     let t = c.args.world.now.network in
     let s = c.args.world.now.state in
     let after : Kept t (facts_of (next t s c.args.command.now).state.history) = rw (c.in-Ok.ensures.network, c.in-Ok.ensures.step.1) at c.ledger-2.ensures.kept in
-    rw (c.in-Ok.ensures.network, c.in-Ok.ensures.step.1, c.in-Ok.ensures.step.0) (told t s c.args.command.now emissions c.ledger.ensures.kept after c.requires.taken)
+    rw (c.in-Ok.ensures.network, c.in-Ok.ensures.step.1, c.in-Ok.ensures.step.0) (told t s c.args.command.now emissions c.ledger.ensures.kept after c.requires.taken.taken)
 
 pub count-requires-clause-alone : goal.count-requires-clause-alone
 count-requires-clause-alone g c =
     let t = c.args.world.now.network in
     let s = c.args.world.now.state in
     let after : Kept t (facts_of (next t s c.args.command.now).state.history) = rw (c.in-Ok.ensures.network, c.in-Ok.ensures.step.1) at c.ledger-2.ensures.kept in
-    rw (c.in-Ok.ensures.step.0) (told_alone t _ _ _ (told t s c.args.command.now (λ n. []) c.ledger.ensures.kept after c.requires.taken))
+    rw (c.in-Ok.ensures.step.0) (told_alone t _ _ _ (told t s c.args.command.now (λ n. []) c.ledger.ensures.kept after c.requires.taken.taken))
 
 pub returns-in_err-write_all-clause-err : goal.returns-in_err-write_all-clause-err
 unfolding done_by
