@@ -1,6 +1,6 @@
 -- The chains of a store when one more beacon is put behind the others.
-use Rattle.std.proofs.Common.{◌≡◌, ℕ, suc, ◌+◌, ◌≤◌, ◌<◌, Bool, true, false, List, [], ◌∷◌, ◌++◌, length, refl, sym, ◌∙◌, ap, arith, add-one, subst, inl, inr, length-append}
-use Rattle.std.specs.Prelude.{Option, Some, None, option_map, option_and_then, slice_get, if◌then◌else◌}
+use Rattle.std.proofs.Common.{◌≡◌, ℕ, suc, ◌+◌, ◌≤◌, ◌<◌, List, [], ◌∷◌, ◌++◌, length, refl, sym, ◌∙◌, ap, arith, add-one, subst, inl, inr, length-append}
+use Rattle.std.specs.Prelude.{Option, Some, None, option_map, option_and_then, slice_get}
 use Rattle.std.specs.Option.{option_map_or}
 use Rattle.epic_num.specs.declared.hop.HopName.{HopName}
 use Rattle.epic_num.specs.declared.segment.SegKind.{SegKind}
@@ -173,9 +173,3 @@ none_chained = record {
   where
     nothing : (n : ℕ) → 0 < n → n ≤ 0 → ⊥
     nothing n some none = absurd (omega arith)
-
--- put behind the others, or not
-pub chained_either : (t : Bool) (beacons new : List Beacon) (b : Beacon) → new ≡ (if t then beacons ++ b ∷ [] else beacons) → AreChained beacons
-    → length beacons < 65536 → IsChained beacons (length beacons + 1) b → AreChained new
-chained_either true beacons new b e chained room is = subst AreChained (sym e) (chained_more beacons b chained room is)
-chained_either false beacons new b e chained room is = subst AreChained (sym e) chained

@@ -6,3 +6,4 @@ pub mod Keeping
 pub mod Rolled
 pub mod Rows
 pub mod Walked
+pub mod Twins

@@ -3,3 +3,4 @@ pub mod Hops
 pub mod Issuing
 pub mod Kinds
 pub mod Store
+pub mod Twins

@@ -8,6 +8,7 @@ ghost use Rattle.epic_beacon.specs.Store.{IsUnrolled, issues_of};
 
 use crate::Beacon;
 use crate::beacon::issue_at;
+use crate::twin::Likeness;
 use epic_num::{AsId, HopName};
 use std::alloc::Global;
 use std::collections::BTreeMap;
@@ -17,19 +18,21 @@ use std::marker::Model;
 #[derive(Drop)]
 pub struct Beacons {
     pub(crate) beacons: Vec<Beacon>,
+    // The number of each beacon, by what twins share.
+    pub(crate) twins: BTreeMap<Likeness, u32>,
     // How often an AS has rolled its key, by its number; absent where it hasn't.
     pub(crate) generations: BTreeMap<u64, u32>,
 }
 
 impl Model for Beacons {
-    ghost use Rattle.epic_beacon.specs.Chained.{AreChained};
     ghost use Rattle.epic_beacon.specs.Store.{Store};
+    ghost use Rattle.epic_beacon.specs.Twins.{AreIndexed};
 
     ghost Value = { Store };
 
     ghost view = { λ s. record { beacons = s.beacons.items; generations = s.generations.entries } };
 
-    ghost invariant = { λ s. AreChained s.beacons.items };
+    ghost invariant = { λ s. AreIndexed s.twins s.beacons.items };
 }
 
 impl Beacons {
@@ -42,6 +45,7 @@ impl Beacons {
     {
         Beacons {
             beacons: Vec::new(alloc),
+            twins: BTreeMap::new(alloc),
             generations: BTreeMap::new(alloc),
         }
     }

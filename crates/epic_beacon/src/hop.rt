@@ -86,6 +86,7 @@ pub(crate) fn beacon_of(topo: &Topology, name: HopName, parent: u32, kind: SegKi
     requires { IsTrue (has topo.now name.asn) }
     ensures value { result ≡ beacon_of topo.now name parent kind }
     ensures name { result.name ≡ name }
+    ensures parent { result.parent ≡ parent }
 {
     Beacon {
         name,

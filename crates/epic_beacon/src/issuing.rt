@@ -1,14 +1,14 @@
-ghost use Rattle.std.specs.Prelude.{◌≡◌, ◌≢◌, ◌+◌, ◌<◌, ◌≤◌, length, IsTrue, IfOk, OnOk};
+ghost use Rattle.std.specs.Prelude.{◌≡◌, ◌≢◌, ◌+◌, ◌<◌, ◌≤◌, None, length, IsTrue, IfOk, OnOk};
 ghost use Rattle.epic_topo.specs.Network.{has};
 ghost use Rattle.epic_keys.specs.Issues.{IssuesKept};
 ghost use Rattle.epic_beacon.specs.Chained.{AreChained, IsChained};
-ghost use Rattle.epic_beacon.specs.Issuing.{Issues, extended, extended_from, originated};
+ghost use Rattle.epic_beacon.specs.Issuing.{Issues, extended, extended_from, originated, twin};
 ghost use Rattle.epic_beacon.specs.Kinds.{KindsKept};
 ghost use Rattle.epic_beacon.specs.Store.{beacon_at, issues_of};
 
 use crate::beacon::{beacon_at, stands_in_chain};
 use crate::hop::{beacon_of, kind_by, link_at};
-use crate::refusal::{onward_refusal, place_refusal};
+use crate::twin::likeness;
 use crate::{Beacon, BeaconError, Beacons};
 use epic_num::{AsId, MAX_MOMENT};
 use epic_topo::Topology;
@@ -61,11 +61,22 @@ impl Beacons {
     fn add(&mut self, beacon: Beacon) -> Result<u32, BeaconError>
         requires few { length self.old.beacons < 65536 }
         requires chained { IsChained self.old.beacons (length self.old.beacons + 1) beacon }
+        requires new { twin self.old.beacons beacon.name beacon.parent ≡ None }
         ensures { Issues self.old self.new (Ok beacon) result }
     {
         let number = self.beacons.len() as u32 + 1;
-        match self.beacons.push(beacon) {
-            Ok(()) => Ok(number),
+        // What wants memory comes first, and the last step wants none.
+        if self.beacons.reserve(1).is_err() {
+            return Err(BeaconError::OutOfMemory);
+        }
+        match self
+            .twins
+            .insert(likeness(&beacon.name, beacon.parent), number)
+        {
+            Ok(_) => {
+                self.beacons.push_reserved(beacon);
+                Ok(number)
+            }
             Err(_) => Err(BeaconError::OutOfMemory),
         }
     }
@@ -86,6 +97,7 @@ impl Beacons {
         requires moment { now ≤ MAX_MOMENT }
         ensures value { result ≡ originated topo.now self.now a out exp now }
         ensures leads_on { IfOk result (λ b. b.name.body.out ≢ 0) }
+        ensures new { IfOk result (λ b. twin self.now.beacons b.name b.parent ≡ None) }
         ensures room { IfOk result (λ _. length self.now.beacons < 65536) }
         ensures chains { OnOk result (AreChained self.now.beacons) }
     {
@@ -96,7 +108,7 @@ impl Beacons {
             return Err(BeaconError::UnknownInterface);
         };
         let name = self.first_name(a, out, exp, now);
-        match place_refusal(&self.beacons, &name, 0) {
+        match self.place_refusal(&name, 0) {
             Some(refusal) => Err(refusal),
             None => Ok(beacon_of(topo, name, 0, kind_by(link))),
         }
@@ -115,6 +127,7 @@ impl Beacons {
         requires kept { IssuesKept topo.now (issues_of self.now.beacons) }
         ensures value { result ≡ extended topo.now self.now parent out exp now }
         ensures known { IfOk result (λ b. IsTrue (has topo.now b.name.asn)) }
+        ensures new { IfOk result (λ b. twin self.now.beacons b.name b.parent ≡ None) }
         ensures room { IfOk result (λ _. length self.now.beacons < 65536) }
         ensures chains { OnOk result (AreChained self.now.beacons) }
     {
@@ -139,6 +152,7 @@ impl Beacons {
         requires there { beacon_at self.now.beacons parent ≡ Some from.now }
         ensures value { result ≡ extended_from topo.now self.now parent from.now out exp now }
         ensures known { IfOk result (λ b. IsTrue (has topo.now b.name.asn)) }
+        ensures new { IfOk result (λ b. twin self.now.beacons b.name b.parent ≡ None) }
         ensures room { IfOk result (λ _. length self.now.beacons < 65536) }
         ensures chains { OnOk result (AreChained self.now.beacons) }
     {
@@ -153,7 +167,7 @@ impl Beacons {
         if stands_in_chain(beacons, parent, from, name.asn) {
             return Err(BeaconError::Loop(name.asn));
         }
-        match onward_refusal(topo, beacons, parent, from.kind, &name, now) {
+        match self.onward_refusal(topo, parent, from.kind, &name, now) {
             Some(refusal) => Err(refusal),
             None => Ok(beacon_of(topo, name, parent, from.kind)),
         }

@@ -10,6 +10,7 @@ mod roll;
 mod segment;
 #[cfg(test)]
 mod tests;
+mod twin;
 
 use beacon::Beacon;
 pub use beacons::Beacons;

@@ -9,13 +9,12 @@ use Rattle.std.proofs.Math.Dec.{eqb-suc-zero}
 use Rattle.arrayvec.specs.ArrayVec.{ArrayVec}
 use Rattle.epic_num.specs.declared.name.AsId.{AsId}
 use Rattle.epic_num.specs.Chains.{Issue}
-use Rattle.epic_num.specs.Levels.{is_first_byte}
 use Rattle.epic_layout.specs.Contents.{Contents, hop_count}
-use Rattle.epic_layout.specs.Layout.{fault, parse}
+use Rattle.epic_layout.specs.Layout.{parse}
 use Rattle.epic_layout.specs.Route.{no_segment}
 use Rattle.epic_ledger.specs.History.{Emission, emission_at, step_of}
 use Rattle.epic_ledger.specs.Facts.{issues_in, packet_at}
-use Rattle.epic_ledger.specs.Lawful.{FitsPass, Fits, IsLast, IsLawful}
+use Rattle.epic_ledger.specs.Lawful.{IsEmission, FitsPass, Fits, IsLast, IsLawful}
 use Rattle.epic_ledger.specs.declared.event.Event.{Event}
 use Rattle.epic_ledger.specs.declared.event.Event.TheVariants as event
 
@@ -103,12 +102,10 @@ lawful_push events es e h fits last = record {
 }
 
 pub lawful_emit : (events : List Event) (es : List Emission) (x : Emission) → IsLawful (record { events = events; emissions = es })
-    → fault is_first_byte x.bytes ≡ None
+    → IsEmission x
     → IsLawful (record { events = events; emissions = es ++ x ∷ [] })
-lawful_emit events es x h faultless = record {
-  packets =
-      All-append (λ (e : Emission). fault is_first_byte e.bytes ≡ None) es (x ∷ []) h.packets
-      (All-cons (λ (e : Emission). fault is_first_byte e.bytes ≡ None) x [] faultless (All-nil (λ (e : Emission). fault is_first_byte e.bytes ≡ None)));
+lawful_emit events es x h spelled = record {
+  packets = All-append IsEmission es (x ∷ []) h.packets (All-cons IsEmission x [] spelled (All-nil IsEmission));
   fit = λ n e at. fits_more es (x ∷ []) (issues_in (take n events)) e (h.fit n e at);
   ascending = h.ascending;
 }

@@ -3,13 +3,18 @@ use Rattle.std.specs.Prelude.{◌≡◌, ℕ, ◌+◌, ◌<◌, ◌≤◌, List,
 use Rattle.std.specs.List.{All}
 use Rattle.epic_num.specs.Chains.{Issue, issue_at, chain}
 use Rattle.epic_num.specs.Levels.{is_first_byte}
-use Rattle.epic_layout.specs.Contents.{hop_count}
+use Rattle.epic_layout.specs.Contents.{IsBytes, hop_count}
 use Rattle.epic_layout.specs.Layout.{fault}
 use Rattle.epic_layout.specs.Route.{no_segment}
 use Rattle.epic_ledger.specs.History.{History, Emission, emission_at, step_of}
 use Rattle.epic_ledger.specs.Facts.{issues_in, packet_at}
 use Rattle.epic_ledger.specs.declared.event.Event.{Event}
 use Rattle.epic_ledger.specs.declared.event.Event.TheVariants as event
+
+-- an emission's bytes spell a packet
+pub record IsEmission (e : Emission) : Type 0 where
+  pub bytes : IsBytes e.bytes
+  pub faultless : fault is_first_byte e.bytes ≡ None
 
 -- an issue has the next number, and goes on from none or from one that is there
 pub record FitsIssue (issues : List Issue) (number parent : ℕ) : Type 0 where
@@ -46,7 +51,6 @@ abbrev pub IsLast : List Event → ℕ → Type 0
 IsLast events step = All (λ e. step_of e ≤ step) events
 
 pub record IsLawful (h : History) : Type 0 where
-  -- the bytes of each emission spell a packet
-  pub packets : All (λ e. fault is_first_byte e.bytes ≡ None) h.emissions
+  pub packets : All IsEmission h.emissions
   pub fit : (n : ℕ) (e : Event) → slice_get h.events n ≡ Some e → Fits h.emissions (issues_in (take n h.events)) e
   pub ascending : (n : ℕ) (e : Event) → slice_get h.events n ≡ Some e → IsLast (take n h.events) (step_of e)

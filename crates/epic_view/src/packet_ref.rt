@@ -1,7 +1,7 @@
 ghost use Rattle.std.specs.Prelude.{◌≡◌, ◌<◌, ◌↔◌, IsTrue, length, slice_index_or};
 ghost use Rattle.epic_num.specs.Levels.{is_first_byte};
 ghost use Rattle.epic_layout.specs.Contents as contents;
-ghost use Rattle.epic_layout.specs.Contents.{hop_count, as_field};
+ghost use Rattle.epic_layout.specs.Contents.{IsBytes, IsPacket, hop_count, as_field};
 ghost use Rattle.epic_layout.specs.Route.{place, no_segment};
 ghost use Rattle.epic_layout.specs.Spelling.{segment_bytes, hop_bytes, path_bytes};
 ghost use Rattle.epic_layout.specs.Route as route;
@@ -13,6 +13,11 @@ use crate::{places, reading};
 use epic_layout::{Shape, check, u64_at};
 use epic_num::{Body, Field, HostId, LayoutError};
 use std::marker::Model;
+
+/// What a slice of bytes holds are bytes.
+fn are_bytes(_bytes: &[u8])
+    ensures { IsBytes _bytes.now }
+{}
 
 /// A packet that is read where its bytes lie. Contracts see it as what the bytes say.
 #[derive(Drop)]
@@ -62,11 +67,14 @@ impl<'a> PacketRef<'a> {
         self.bytes[0]
     }
 
+    /// The packet's version, level and sizes. Every view is of a packet within the limits of the layout.
     pub fn shape(&self) -> Shape
+        ensures packet { IsPacket self.now }
         ensures shape { result ≡ contents.shape self.now }
         ensures segments { result.segments ≡ length self.now.route.segments }
         ensures hops { result.hops ≡ hop_count self.now }
     {
+        are_bytes(self.bytes);
         self.frame.shape
     }
 

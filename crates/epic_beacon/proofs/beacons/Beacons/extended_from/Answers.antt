@@ -14,6 +14,6 @@ next_name-name-requires-clause-linked c =
 
 pub next_name-name-requires-clause-room : goal.next_name-name-requires-clause-room
 next_name-name-requires-clause-room c =
-    let chained = subst (λ (s : Store). AreChained s.beacons) c.self.view_is c.self.invariant in
+    let chained = subst (λ (s : Store). AreChained s.beacons) c.self.view_is c.self.invariant.chained in
     let few = position_few c.args.self.now.beacons c.args.parent c.args.from.now chained c.requires.there in
     omega arith

@@ -1,0 +1,13 @@
+mod Finds
+mod Tests
+mod Queries
+mod Chained
+mod Twins
+mod Fields
+mod Hop
+mod Updates
+mod Arrivals
+mod Dest
+mod Growth
+mod Keeping
+mod Lists

@@ -1,0 +1,10 @@
+pub mod Clauses
+pub mod Collided
+pub mod Events
+pub mod Forged
+pub mod Holds
+pub mod Kept
+pub mod Laws
+pub mod Made
+pub mod Reveals
+pub mod Verdicts
