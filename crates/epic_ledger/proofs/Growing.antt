@@ -124,3 +124,18 @@ pub passed_there : (events : List Event) (es : List Emission) (i : ℕ) (e : Eve
     → i < length events → e ≡ get_or events i e → e ≡ event.Pass step a hop generation emission → FitsPass es emission hop
 passed_there events es i e step a hop generation emission h in' is pass =
     subst (λ (x : Event). Fits es (issues_in (take i events)) x) pass (fits_at events es i e h in' is)
+
+-- ---- for callers
+
+-- the step that was the last stays it where an event of it is added
+pub IsLast-push : (events : List Event) (e : Event) (step : ℕ) → IsLast events step → step_of e ≡ step → IsLast (events ++ e ∷ []) step
+IsLast-push events e step h at =
+    All-append (λ (x : Event). step_of x ≤ step) events (e ∷ []) h
+    (All-cons (λ (x : Event). step_of x ≤ step) e [] (omega (arith, at)) (All-nil (λ (x : Event). step_of x ≤ step)))
+
+-- the last step is also before each later one
+pub IsLast-later : (events : List Event) (step later : ℕ) → IsLast events step → step ≤ later → IsLast events later
+IsLast-later events step later h after k d in' = let here = h k d in' in omega (arith, here, after)
+
+pub IsLast-none : (step : ℕ) → IsLast [] step
+IsLast-none step = All-nil (λ (x : Event). step_of x ≤ step)

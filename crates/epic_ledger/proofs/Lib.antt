@@ -2,4 +2,4 @@ pub mod Growing
 pub mod InRow
 pub mod Logging
 pub mod Spots
-pub mod Tests
+pub mod Orders

@@ -1,4 +1,4 @@
-ghost use Rattle.std.specs.Prelude.{◌≡◌, ◌+◌, ◌^◌, ◌<◌, ◌≤◌, [], ◌∷◌, ◌++◌, None, length, take, drop, slice_get, option_map, IsSome, IfSome, OnOk};
+ghost use Rattle.std.specs.Prelude.{◌≡◌, ◌+◌, ◌^◌, ◌<◌, ◌≤◌, [], ◌∷◌, ◌++◌, None, length, take, drop, slice_get, option_map, IsSome, IfSome, IsOk, OnOk};
 ghost use Rattle.std.specs.Option.{option_map_or};
 ghost use Rattle.epic_num.specs.Levels.{is_first_byte};
 ghost use Rattle.epic_layout.specs.Layout.{fault, parse};
@@ -99,6 +99,7 @@ impl Emissions {
         ensures emissions { self.new.emissions ≡ self.old.emissions }
         ensures spare { OnOk result (emissions ≤ self.new.spare) }
         ensures byte_spare { OnOk result (bytes ≤ self.new.byte_spare) }
+        ensures succeeds { emissions ≤ self.old.spare → bytes ≤ self.old.byte_spare → IsOk result }
         ensures kept { self.old.spare ≤ self.new.spare }
         ensures bytes_kept { self.old.byte_spare ≤ self.new.byte_spare }
     {

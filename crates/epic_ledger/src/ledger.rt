@@ -1,4 +1,4 @@
-ghost use Rattle.std.specs.Prelude.{◌≡◌, ◌+◌, ◌^◌, ◌<◌, ◌≤◌, [], ◌∷◌, ◌++◌, length, option_map, slice_get, None, OnOk};
+ghost use Rattle.std.specs.Prelude.{◌≡◌, ◌+◌, ◌^◌, ◌<◌, ◌≤◌, [], ◌∷◌, ◌++◌, length, option_map, slice_get, None, IsOk, OnOk};
 ghost use Rattle.std.specs.Option.{option_copied};
 ghost use Rattle.epic_num.specs.Chains.{issue_at};
 ghost use Rattle.epic_num.specs.Levels.{is_first_byte};
@@ -58,6 +58,9 @@ impl Ledger {
         ensures events { OnOk result (events ≤ self.new.spare.events) }
         ensures emissions { OnOk result (emissions ≤ self.new.spare.emissions) }
         ensures bytes { OnOk result (bytes ≤ self.new.spare.bytes) }
+
+        // It fails only where there wasn't room already.
+        ensures succeeds { events ≤ self.old.spare.events → emissions ≤ self.old.spare.emissions → bytes ≤ self.old.spare.bytes → IsOk result }
 
         // Whatever the result, nothing else changes, and no room is lost.
         ensures history { self.new.history ≡ self.old.history }

@@ -11,6 +11,8 @@ mod passes;
 mod reveals;
 mod sends;
 mod spot;
+#[cfg(test)]
+mod tests;
 
 pub use event::Event;
 pub use ledger::Ledger;

@@ -1,4 +1,4 @@
-ghost use Rattle.std.specs.Prelude.{◌≡◌, ◌+◌, ◌^◌, ◌<◌, ◌≤◌, [], ◌∷◌, ◌++◌, length, map, option_map, position, vec_len, vec_capacity, IfSome, OnOk};
+ghost use Rattle.std.specs.Prelude.{◌≡◌, ◌+◌, ◌^◌, ◌<◌, ◌≤◌, [], ◌∷◌, ◌++◌, length, map, option_map, position, vec_len, vec_capacity, IfSome, IsOk, OnOk};
 ghost use Rattle.std.specs.Option.{option_map_or};
 ghost use Rattle.epic_num.specs.Chains as chains;
 ghost use Rattle.epic_num.specs.Same.{same_name};
@@ -142,6 +142,7 @@ impl Log {
         requires { length self.old.events + events < 2 ^ 31 }
         ensures events { self.new.events ≡ self.old.events }
         ensures spare { OnOk result (events ≤ self.new.spare) }
+        ensures succeeds { events ≤ self.old.spare → IsOk result }
         ensures kept { self.old.spare ≤ self.new.spare }
     {
         self.events.reserve(events as usize)?;

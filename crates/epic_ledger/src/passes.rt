@@ -50,7 +50,7 @@ fn has_name(packet: &PacketRef<'_>, pass: Passing, sought: &Sought) -> bool
 }
 
 /// Whether the hop that was accepted is the one that is sought. The cheap parts are compared first.
-#[tactic(auto, using(crate::proofs::Tests::in_other_order), unfolding(crate::specs::Facts::packet_at, crate::specs::Facts::pass_name, crate::specs::Queries::is_pass_of, crate::specs::Walks::pass_with))]
+#[tactic(auto, using(crate::proofs::Orders::in_other_order), unfolding(crate::specs::Facts::packet_at, crate::specs::Facts::pass_name, crate::specs::Queries::is_pass_of, crate::specs::Walks::pass_with))]
 fn is_pass_of(emissions: &Emissions, pass: Passing, sought: &Sought) -> bool
     requires { FitsPass emissions.now.emissions pass.emission pass.hop }
     ensures { result ≡ queries.is_pass_of sought.now.first sought.now.name sought.now.src sought.now.ts sought.now.hop (pass_with emissions.now.emissions pass) }
