@@ -20,7 +20,7 @@ use Rattle.epic_layout.proofs.Shapes.{hop_count_parse}
 use Rattle.epic_layout.proofs.Soundness.{sound, faultless, checked_sound}
 use Rattle.epic_topo.specs.Network.{Network}
 use Rattle.epic_router.specs.Candidates.{field_fits, tags_fit, accepting}
-use Rattle.epic_router.specs.Turns.{first_row, differ, is_from_elsewhere, is_switched_inside, kind_rows, entry_rows, hop_rows, exit_rows, rows, onward, unless, handled, turn_of, bytes_after}
+use Rattle.epic_router.specs.Turns.{first_row, differ, is_wrong_source, is_wrong_switch, kind_rows, entry_rows, hop_rows, exit_rows, rows, onward, unless, handled, turn_of, bytes_after}
 use Rattle.epic_router.specs.Accepted.{IsEntered, IsRightHop, GoesOn, IsAccepted, IsForwarded, IsDelivered, IsRightTurn, TurnsAreRight}
 use Rattle.epic_router.proofs.OneOn.{goes_on}
 use Rattle.epic_router.proofs.Rows.{row_passed, all_passed}
@@ -54,7 +54,7 @@ level p e =
     (equal _ _ first.0, equal _ _ segments.0)
 
 entered : (a : AsId) (iface : ℕ) (p : Contents) → first_row (entry_rows a iface p p.current) ≡ None → (p.current ≢ hop_count p) × IsEntered a iface p
-unfolding entry_rows is_from_elsewhere
+unfolding entry_rows is_wrong_source
 entered a iface p e =
     let ended = row_passed _ _ e in
     let ingress_is = row_passed _ _ ended.1 in
@@ -86,7 +86,7 @@ found_from test (x ∷ xs) g e =
 
 right_hop : (t : Network) (a : AsId) (candidates : List ℕ) (now : ℕ) (p : Contents) (j : ℕ) → first_row (hop_rows t a candidates now p j) ≡ None
     → IsRightHop t a (unwrap_or (accepting t a candidates p j) 0) now p j × Contains candidates (unwrap_or (accepting t a candidates p j) 0)
-unfolding hop_rows accepting tags_fit field_fits is_switched_inside
+unfolding hop_rows accepting tags_fit field_fits is_wrong_switch
 right_hop t a candidates now p j e =
     let future = row_passed _ _ e in
     let expired = row_passed _ _ future.1 in

@@ -10,7 +10,7 @@ use Rattle.epic_layout.specs.Route.{body}
 use Rattle.epic_topo.specs.Network.{Network}
 use Rattle.epic_fields.specs.HopChecks.{hop_name, has_link}
 use Rattle.epic_router.specs.Candidates.{field_fits}
-use Rattle.epic_router.specs.Turns.{first_row, hop_rows, is_switched_inside}
+use Rattle.epic_router.specs.Turns.{first_row, hop_rows, is_wrong_switch}
 use Rattle.epic_router.proofs.TagLaws.{one_field, none_accepting, one_accepting}
 
 -- the hop is valid at this moment
@@ -37,7 +37,7 @@ bad_link t a g now p j valid field link =
 
 pub right_tags : (t : Network) (a : AsId) (g now : ℕ) (p : Contents) (j : ℕ) → IsValid t now p j
     → field_fits t a p j g ≡ true → has_link t (hop_name a g p j) p j ≡ true
-    → first_row (hop_rows t a (g ∷ []) now p j) ≡ (if is_switched_inside p j then Some (WrongSwitch, j) else None)
+    → first_row (hop_rows t a (g ∷ []) now p j) ≡ (if is_wrong_switch p j then Some (WrongSwitch, j) else None)
 unfolding hop_rows
 right_tags t a g now p j valid field link =
     cond-false _ _ _ valid.not_future

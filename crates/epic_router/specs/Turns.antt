@@ -32,45 +32,58 @@ first_row (row ∷ rows) = if row.0 then Some (row.1, row.2) else first_row rows
 abbrev pub differ : Bool → Bool → Bool
 differ a b = not (beq a b)
 
--- A packet comes from inside the AS, which is interface 0, exactly where it is at its first hop, and then its source is there.
-unfoldable pub is_from_elsewhere : AsId → ℕ → Contents → Bool
-is_from_elsewhere a iface p = differ (iface == 0) (p.current == 0) || (iface == 0 && not (same_as p.src.asn a))
+-- A packet comes from inside the AS, by interface 0, exactly where it is at its first hop, and then its source is there.
+-- This one doesn't.
+unfoldable pub is_wrong_source : AsId → ℕ → Contents → Bool
+is_wrong_source a iface p = differ (iface == 0) (p.current == 0) || (iface == 0 && not (same_as p.src.asn a))
 
--- A segment is entered from inside the AS exactly at its first hop, and left so exactly at its last.
-unfoldable pub is_switched_inside : Contents → ℕ → Bool
-is_switched_inside p j =
+-- A segment is entered from inside an AS exactly at its first hop, and left so exactly at its last. This one isn't.
+unfoldable pub is_wrong_switch : Contents → ℕ → Bool
+is_wrong_switch p j =
     let at = place p.route.segments j in
     differ (ingress p.route j == 0) (is_first at) || differ (egress p.route j == 0) (is_last at)
 
 -- so far routers take packets of level 0 of version 1, with one segment
 unfoldable pub kind_rows : Contents → List Row
 kind_rows p =
+    -- it has another level or version
     (not (p.first == 0xE0), Layout Version, 0)
+    -- it has several segments
     ∷ (not (length p.route.segments == 1), Layout SegmentCount, 0)
     ∷ []
 
 -- how the packet comes to hop j
 unfoldable pub entry_rows : AsId → ℕ → Contents → ℕ → List Row
 entry_rows a iface p j =
+    -- every hop was handled before
     (j == hop_count p, Ended, j)
+    -- it came in elsewhere than by the hop's ingress
     ∷ (not (iface == ingress p.route j), WrongIngress, j)
-    ∷ (is_from_elsewhere a iface p, WrongSource, j)
+    -- it begins elsewhere than at its source's AS, or comes from there later on
+    ∷ (is_wrong_source a iface p, WrongSource, j)
     ∷ []
 
 -- hop j by itself
 unfoldable pub hop_rows : Network → AsId → List ℕ → ℕ → Contents → ℕ → List Row
 hop_rows t a candidates now p j =
+    -- its segment's timestamp lies too far ahead
     (is_path_future t.profile (body p.route j).ts_path now, PathFuture, j)
+    -- its validity is over
     ∷ (is_expired (body p.route j).ts_path (body p.route j).exp now, Expired, j)
+    -- its field is right under no generation
     ∷ (not (some_field_fits t a candidates p j), BadField, j)
+    -- under none are both its field and the link tag that the next hop carries
     ∷ (is_none (accepting t a candidates p j), BadLink, j)
-    ∷ (is_switched_inside p j, WrongSwitch, j)
+    -- its segment is entered or left elsewhere than at its ends
+    ∷ (is_wrong_switch p j, WrongSwitch, j)
     ∷ []
 
 -- how the packet leaves hop j
 unfoldable pub exit_rows : Network → AsId → Contents → ℕ → List Row
 exit_rows t a p j =
+    -- it goes on by an interface without a link
     (not (egress p.route j == 0) && is_none (neighbour t a (egress p.route j)), NoInterface, j)
+    -- it ends in another AS than its destination's
     ∷ (egress p.route j == 0 && not (same_as p.dst.asn a), WrongDestination, j)
     ∷ []
 

@@ -4,7 +4,7 @@ ghost use Rattle.epic_layout.specs.Contents.{hop_count};
 ghost use Rattle.epic_layout.specs.Route.{hops_of};
 ghost use Rattle.epic_topo.specs.Network.{has};
 ghost use Rattle.epic_router.specs.Candidates.{accepting};
-ghost use Rattle.epic_router.specs.Turns.{entry_rows, exit_rows, first_row, hop_rows, kind_rows, is_from_elsewhere, is_switched_inside, rows};
+ghost use Rattle.epic_router.specs.Turns.{entry_rows, exit_rows, first_row, hop_rows, kind_rows, is_wrong_source, is_wrong_switch, rows};
 
 use crate::tags::{has_field, has_link};
 use epic_keys::derive;
@@ -14,18 +14,18 @@ use epic_view::PacketRef;
 
 /// Whether a packet comes from inside the AS without being at its first hop and of a source there, or is at its first hop
 /// and comes from outside.
-#[tactic(auto, unfolding(crate::specs::Turns::is_from_elsewhere))]
-fn is_from_elsewhere(packet: &PacketRef<'_>, a: AsId, iface: u16) -> bool
-    ensures { result ≡ is_from_elsewhere a iface packet.now }
+#[tactic(auto, unfolding(crate::specs::Turns::is_wrong_source))]
+fn is_wrong_source(packet: &PacketRef<'_>, a: AsId, iface: u16) -> bool
+    ensures { result ≡ is_wrong_source a iface packet.now }
 {
     (iface == 0) != (packet.current() == 0) || (iface == 0 && !same_as(packet.src().asn, a))
 }
 
 /// Whether hop `j` is entered or left from inside its AS elsewhere than at the ends of its segment, or is an end without it.
-#[tactic(auto, unfolding(crate::specs::Turns::is_switched_inside))]
-fn is_switched_inside(packet: &PacketRef<'_>, j: u8) -> bool
+#[tactic(auto, unfolding(crate::specs::Turns::is_wrong_switch))]
+fn is_wrong_switch(packet: &PacketRef<'_>, j: u8) -> bool
     requires { j < hop_count packet.now }
-    ensures { result ≡ is_switched_inside packet.now j }
+    ensures { result ≡ is_wrong_switch packet.now j }
 {
     (packet.ingress(j) == 0) != packet.is_first(j) || (packet.egress(j) == 0) != packet.is_last(j)
 }
@@ -61,7 +61,7 @@ fn entry_refusal(packet: &PacketRef<'_>, a: AsId, iface: u16, j: u8) -> Option<(
     if packet.ingress(j) != iface {
         return Some((Check::WrongIngress, j));
     }
-    if is_from_elsewhere(packet, a, iface) {
+    if is_wrong_source(packet, a, iface) {
         return Some((Check::WrongSource, j));
     }
     None
@@ -98,7 +98,7 @@ fn hop_refusal(
     if !has_link(packet, j, &key, &body) {
         return Some((Check::BadLink, j));
     }
-    if is_switched_inside(packet, j) {
+    if is_wrong_switch(packet, j) {
         return Some((Check::WrongSwitch, j));
     }
     None
