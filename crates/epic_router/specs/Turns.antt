@@ -59,7 +59,7 @@ entry_rows a iface p j =
     (j == hop_count p, Ended, j)
     -- it came in elsewhere than by the hop's ingress
     ∷ (not (iface == ingress p.route j), WrongIngress, j)
-    -- it begins elsewhere than at its source's AS, or comes from there later on
+    -- it comes from inside without being at its source, or from outside at its first hop
     ∷ (is_wrong_source a iface p, WrongSource, j)
     ∷ []
 
