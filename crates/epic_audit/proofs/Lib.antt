@@ -22,3 +22,5 @@ mod Descent
 mod SegmentExamples
 pub mod Whole
 pub mod Recording
+mod VerdictExamples
+mod KeptExample
