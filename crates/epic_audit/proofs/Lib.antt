@@ -25,3 +25,5 @@ pub mod Recording
 pub mod FieldBytes
 pub mod ForgedLemmas
 pub mod Rows
+mod VerdictExamples
+mod KeptExample
