@@ -24,6 +24,5 @@ pub mod Whole
 pub mod Recording
 pub mod FieldBytes
 pub mod ForgedLemmas
-pub mod Rows
 mod VerdictExamples
 mod KeptExample

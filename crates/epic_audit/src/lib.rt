@@ -19,6 +19,8 @@ mod twins;
 mod uncovered;
 mod updates;
 mod verdict;
+#[cfg(test)]
+mod tests;
 
 pub use arrival::verdict_dest;
 pub use chain::whole_chains;

@@ -9,6 +9,8 @@ mod passed_text;
 mod refusal_words;
 mod run_command;
 mod script;
+#[cfg(test)]
+mod tests;
 mod verdict_text;
 mod word;
 
