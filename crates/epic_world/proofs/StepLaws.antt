@@ -24,7 +24,7 @@ use Rattle.epic_world.specs.State.{State, store_in, is_known_in, segments_in}
 use Rattle.epic_world.specs.Stepped.{answered, refused, recorded}
 use Rattle.epic_world.specs.Next.{next, issued, next_at, next_originate, next_extend, next_fetch, next_paths, found}
 use Rattle.epic_world.specs.Run.{done_by, run_from, state_after}
-use Rattle.epic_world.specs.Sound.{IsSound, CarriesBytes, HasNoVerdict, IsJudged, StepsAreSound, IsSoundStep, RunsAreSound}
+use Rattle.epic_world.specs.Sound.{IsSound, CarriesBytes, HasNoVerdict, IsJudged, StepsAreSound, VerdictsAreRight, IsSoundStep, RunsAreSound}
 use Rattle.epic_world.proofs.Soundness.{counted, at_sound, originate_sound, extend_sound, fetch_sound, paths_sound}
 use Rattle.epic_world.proofs.Judged.{turn_right}
 
@@ -114,6 +114,10 @@ module _ (keep : EventsKeep) (still : EventsAreLawful) (same : EmissionsAddNothi
   judged t s (command.Carry emission) bytes h = tt
   judged t s (command.Reveal holder) bytes h = tt
   judged t s (command.Roll a) bytes h = tt
+
+  pub verdicts_are_right : VerdictsAreRight
+  unfolding done_by
+  verdicts_are_right t s c bytes h = judged t s c bytes h
 
   sound_step : (t : Network) (s : State) (c : Command) → CarriesBytes c → IsSound t s → IsSoundStep t (done_by t s c)
   unfolding done_by

@@ -22,7 +22,7 @@ use Rattle.epic_audit.specs.Holds.{Holds, AtHop}
 use Rattle.epic_audit.specs.Kept.{Kept}
 use Rattle.epic_audit.specs.Verdicts.{IsProved}
 use Rattle.epic_world.specs.Next.{next}
-use Rattle.epic_world.specs.Run.{Done, run_from, state_after}
+use Rattle.epic_world.specs.Run.{Done, done_by, run_from, state_after}
 use Rattle.epic_world.specs.State.{State, start}
 
 -- ---- states
@@ -93,6 +93,11 @@ StartIsSound = (t : Network) → IsSound t start
 abbrev pub StepsAreSound : Type 0
 StepsAreSound =
     (t : Network) (s : State) (c : Command) → IsTopology t → CarriesBytes c → IsSound t s → IsSound t (next t s c).state
+
+-- the verdicts of a step from a sound state are right
+abbrev pub VerdictsAreRight : Type 0
+VerdictsAreRight =
+    (t : Network) (s : State) (c : Command) → CarriesBytes c → IsSound t s → VerdictsHold t (done_by t s c)
 
 -- a step that goes on from a sound state, and whose verdicts are right
 pub record IsSoundStep (t : Network) (d : Done) : Type 0 where

@@ -1,10 +1,12 @@
 //! What holds of all ledgers and runs.
 ghost use Rattle.epic_audit.specs.Events.{EmissionsAddNothing, EmissionsAreLawful, EventsKeep};
+ghost use Rattle.epic_layout.specs.Contents.{IsBytes};
 ghost use Rattle.epic_ledger.specs.Lawful.{IsLawful};
-ghost use Rattle.epic_world.specs.Sound.{RunsAreSound, StartIsSound, StepsAreSound};
+ghost use Rattle.epic_world.specs.Sound.{CarriesBytes, RunsAreSound, StartIsSound, StepsAreSound, VerdictsAreRight};
 
 use epic_audit::{hop_verdicts, ledgers};
 use epic_ledger::Ledger;
+use epic_num::Command;
 use epic_router::accepted_packets_are_right;
 use epic_topo::links_lead_back;
 
@@ -13,6 +15,7 @@ use epic_topo::links_lead_back;
 pub fn runs_are_sound()
     ensures start { StartIsSound }
     ensures steps { StepsAreSound }
+    ensures verdicts { VerdictsAreRight }
     ensures runs { RunsAreSound }
 {
     ledgers();
@@ -30,4 +33,22 @@ pub(crate) fn keeps(ledger: &Ledger)
 {
     ledgers();
     let _events = ledger.events();
+}
+
+/// What a slice of bytes holds are bytes.
+fn are_bytes(_bytes: &[u8])
+    ensures { IsBytes _bytes.now }
+{}
+
+/// What a command carries are bytes.
+#[tactic(auto, unfolding(crate::specs::Sound::CarriesBytes))]
+pub fn carries_bytes(command: &Command)
+    ensures { CarriesBytes command.now }
+{
+    match command {
+        Command::Send { payload, .. } => are_bytes(payload.as_slice()),
+        Command::Turn { bytes, .. } => are_bytes(bytes.as_slice()),
+        Command::Arrive { bytes, .. } => are_bytes(bytes.as_slice()),
+        _ => {}
+    }
 }

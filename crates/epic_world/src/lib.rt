@@ -9,5 +9,5 @@ mod stepping;
 mod turning;
 mod world;
 
-pub use laws::runs_are_sound;
+pub use laws::{carries_bytes, runs_are_sound};
 pub use world::World;

@@ -3,6 +3,7 @@ ghost use Rattle.epic_ledger.specs.Facts.{facts_of};
 ghost use Rattle.epic_ledger.specs.Lawful.{IsLawful};
 ghost use Rattle.epic_audit.specs.Kept.{Kept};
 
+use crate::laws::{carries_bytes, keeps, runs_are_sound};
 use epic_audit::ledgers;
 use epic_beacon::Beacons;
 use epic_keys::KeyStore;
@@ -38,6 +39,8 @@ impl World {
     ghost use Rattle.epic_world.specs.State.{start};
     ghost use Rattle.epic_world.specs.Stepped.{Steps};
     ghost use Rattle.epic_world.specs.Next.{next, is_taken, HasMoment};
+    ghost use Rattle.epic_world.specs.Run.{done_by};
+    ghost use Rattle.epic_world.specs.Sound.{VerdictsHold};
 
     /// A world in which nothing has happened. It takes no memory.
     pub fn new(alloc: Global, topo: Topology) -> World
@@ -91,8 +94,10 @@ impl World {
         requires fits { HasMoment command.now }
         requires few { self.old.state.steps < 2 ^ 30 - 1 }
         ensures step { Steps (next self.old.network self.old.state command.now) result self.old.state self.new.state }
+        ensures verdicts { VerdictsHold self.old.network (done_by self.old.network self.old.state command.now) }
         ensures network { self.new.network ≡ self.old.network }
     {
+        self.judges(command);
         match command {
             Command::At { moment } => Ok(self.at(*moment)),
             Command::Originate { a, out, exp } => self.originate(*a, *out, *exp),
@@ -106,5 +111,14 @@ impl World {
             Command::Turn { a, iface, bytes } => self.turn(alloc, *a, *iface, bytes.as_slice()),
             _ => unreachable!(),
         }
+    }
+
+    // Whatever a step answers, its verdicts are right.
+    fn judges(&self, command: &Command)
+        ensures { VerdictsHold self.now.network (done_by self.now.network self.now.state command.now) }
+    {
+        keeps(&self.ledger);
+        carries_bytes(command);
+        runs_are_sound();
     }
 }

@@ -10,6 +10,11 @@ returns-clause-steps c =
     let e = c.ledgers.ensures in
     laws.steps_are_sound e.kept e.lawful e.same_facts e.still_lawful e.packets c.hop_verdicts.ensures c.accepted_packets_are_right.ensures c.links_lead_back.ensures
 
+pub returns-clause-verdicts : goal.returns-clause-verdicts
+returns-clause-verdicts c =
+    let e = c.ledgers.ensures in
+    laws.verdicts_are_right e.kept e.lawful e.same_facts e.still_lawful e.packets c.hop_verdicts.ensures c.accepted_packets_are_right.ensures c.links_lead_back.ensures
+
 pub returns-clause-runs : goal.returns-clause-runs
 returns-clause-runs c =
     let e = c.ledgers.ensures in
