@@ -1,0 +1,2 @@
+mod Iterated
+mod Numbers

@@ -1,0 +1,4 @@
+pub mod Works
+pub mod Lines
+pub mod Request
+pub mod Run

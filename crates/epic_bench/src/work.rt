@@ -1,0 +1,129 @@
+//! The works that are measured.
+
+ghost use Rattle.std.specs.Prelude.{◌≡◌, ◌*◌, length};
+ghost use Rattle.std.specs.Fn.{iterate};
+ghost use Rattle.epic_aes.specs.Chain.{chain};
+ghost use Rattle.epic_cmac.specs.Cmac.{cmac};
+ghost use Rattle.epic_bench.specs.Works.{message, name_of, operations, unit_of, value};
+
+use epic_aes::Aes;
+use epic_cmac::cmac;
+
+/// What is measured.
+#[derive(Clone, Copy, Debug)]
+pub(crate) enum Work {
+    /// Blocks of the cipher in a chain, 64 a round.
+    Aes,
+    /// Tags of 1,500 bytes, each under a key of its own.
+    Cmac,
+    /// Tags of 27 bytes, each under a key of its own.
+    Short,
+}
+
+/// The key of the chain, and the value that each work begins with: the key of the examples of RFC 4493 4.
+pub(crate) const KEY: [u8; 16] = [
+    0x2b, 0x7e, 0x15, 0x16, 0x28, 0xae, 0xd2, 0xa6, 0xab, 0xf7, 0x15, 0x88, 0x09, 0xcf, 0x4f, 0x3c,
+];
+
+impl Work {
+    /// Its word on the command line.
+    pub(crate) fn name(self) -> &'static str
+        ensures { result.now ≡ name_of self }
+    {
+        match self {
+            Work::Aes => "aes",
+            Work::Cmac => "cmac",
+            Work::Short => "short",
+        }
+    }
+
+    /// What its operations are called.
+    pub(crate) fn unit(self) -> &'static str
+        ensures { result.now ≡ unit_of self }
+    {
+        match self {
+            Work::Aes => "blocks",
+            Work::Cmac | Work::Short => "messages",
+        }
+    }
+
+    /// How many operations so many rounds have.
+    pub(crate) fn operations(self, rounds: u32) -> u64
+        ensures { result ≡ operations self rounds }
+    {
+        let each = match self {
+            Work::Aes => 64,
+            Work::Cmac | Work::Short => 1,
+        };
+        each * u64::from(rounds)
+    }
+}
+
+// Not inlined, nor is the next, so that the sizes of messages are no constants there.
+#[inline(never)]
+fn chain_rounds(blocks: &[[u8; 16]], rounds: u32) -> [u8; 16]
+    ensures { result ≡ iterate (λ x. chain KEY x blocks.now) rounds KEY }
+{
+    let aes = Aes::new(&KEY);
+    let mut x = KEY;
+    for _ in 0..rounds {
+        aes.chain(&mut x, blocks);
+    }
+    x
+}
+
+#[inline(never)]
+fn tag_rounds(message: &[u8], rounds: u32) -> [u8; 16]
+    ensures { result ≡ iterate (λ key. cmac key message.now) rounds KEY }
+{
+    let mut key = KEY;
+    for _ in 0..rounds {
+        let tag = cmac(&key, message);
+        key = tag;
+    }
+    key
+}
+
+fn fill(bytes: &mut [u8], seed: u32)
+    ensures { bytes.new ≡ message seed (length bytes.old) }
+{
+    for (i, byte) in bytes.iter_mut().enumerate() {
+        *byte = ((u64::from(seed) + i as u64) % 256) as u8;
+    }
+}
+
+fn aes_value(rounds: u32) -> [u8; 16]
+    ensures { result ≡ value Work.Aes rounds }
+{
+    let mut bytes = [0; 1024];
+    fill(&mut bytes, rounds);
+    let (blocks, _) = bytes.as_chunks::<16>();
+    chain_rounds(blocks, rounds)
+}
+
+fn cmac_value(rounds: u32) -> [u8; 16]
+    ensures { result ≡ value Work.Cmac rounds }
+{
+    let mut message = [0; 1500];
+    fill(&mut message, rounds);
+    tag_rounds(&message, rounds)
+}
+
+fn short_value(rounds: u32) -> [u8; 16]
+    ensures { result ≡ value Work.Short rounds }
+{
+    let mut message = [0; 27];
+    fill(&mut message, rounds);
+    tag_rounds(&message, rounds)
+}
+
+/// The value of a work after all its rounds.
+pub(crate) fn perform(work: Work, rounds: u32) -> [u8; 16]
+    ensures { result ≡ value work rounds }
+{
+    match work {
+        Work::Aes => aes_value(rounds),
+        Work::Cmac => cmac_value(rounds),
+        Work::Short => short_value(rounds),
+    }
+}
