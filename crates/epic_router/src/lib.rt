@@ -1,0 +1,12 @@
+//! A router's turn: a packet's bytes, checked and edited where they lie.
+#![tactic(auto)]
+
+mod laws;
+mod refusal;
+mod tags;
+#[cfg(test)]
+mod tests;
+mod turning;
+
+pub use laws::accepted_packets_are_right;
+pub use turning::turn;
