@@ -10,8 +10,8 @@ room=$(mktemp -d) || exit 2
 trap 'rm -rf "$room"' EXIT
 
 # How many rounds a run has, some two milliseconds.
-declare -A rounds=([aes]=600 [cmac]=400 [short]=8000)
-works=(aes cmac short)
+declare -A rounds=([aes]=600 [cmac]=400 [short]=8000 [turn]=400)
+works=(aes cmac short turn)
 names=()
 
 build() { # NAME, and rt's words: proves and builds the program
@@ -26,8 +26,10 @@ build rattle --backend rattle
 build llvm
 if ${CC:-gcc} -O2 -o "$room/c" "$root/bench/cmac.c"; then names+=(c); fi
 
+# The C program has no turns.
 for name in "${names[@]}"; do
-  if ! "$room/$name" digests 3 | cmp -s - "$crate/stdout"; then
+  if [ "$name" = c ]; then skipped=turn; else skipped=none; fi
+  if ! "$room/$name" digests 3 | cmp -s - <(grep -v "^$skipped " "$crate/stdout"); then
     echo "$name: wrong digests"
     exit 1
   fi
@@ -36,6 +38,7 @@ done
 for ((i = 0; i < runs; i++)); do
   for work in "${works[@]}"; do
     for name in "${names[@]}"; do
+      [ "$name $work" = "c turn" ] && continue
       "$room/$name" "$work" "${rounds[$work]}" | awk -v name="$name" '{ print name, $1, $(NF - 1) }' >>"$room/times"
     done
   done
@@ -76,5 +79,6 @@ awk '
     show("a block in a chain, the other build to ours", "aes", "rattle", "")
     show("a tag of 1500 bytes, the other build to ours", "cmac", "rattle", "")
     show("a tag of 27 bytes, the other build to ours", "short", "rattle", "")
+    show("a turn of level 0, the other build to ours", "turn", "rattle", "")
   }
 ' "$room/times"

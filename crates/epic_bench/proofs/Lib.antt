@@ -1,2 +1,3 @@
 mod Iterated
 mod Numbers
+mod Travels

@@ -3,7 +3,7 @@ use Rattle.std.specs.Prelude.{ℕ, ◌==◌, ◌<◌, List, [], ◌∷◌, Optio
 use Rattle.std.specs.Option.{option_map, option_and_then}
 use Rattle.epic_num.specs.Names.{number_within}
 use Rattle.epic_bench.specs.declared.work.Work.{Work}
-use Rattle.epic_bench.specs.declared.work.Work.TheVariants.{Aes, Cmac, Short}
+use Rattle.epic_bench.specs.declared.work.Work.TheVariants.{Aes, Cmac, Short, Turn}
 use Rattle.epic_bench.specs.declared.words.Request.{Request}
 use Rattle.epic_bench.specs.declared.words.Request.TheVariants.{Time, Digests}
 
@@ -21,6 +21,7 @@ work_of word =
     if bytes_eq word (codes "aes") then Some Aes
     else if bytes_eq word (codes "cmac") then Some Cmac
     else if bytes_eq word (codes "short") then Some Short
+    else if bytes_eq word (codes "turn") then Some Turn
     else None
 
 -- `digests`, or the name of a work

@@ -5,6 +5,8 @@ mod report;
 #[cfg(test)]
 mod tests;
 mod top;
+mod turns;
+mod way;
 mod words;
 mod work;
 

@@ -18,6 +18,8 @@ pub(crate) enum End {
     Done,
     /// The words are no command.
     BadWords,
+    /// The packet for the turns can't be made.
+    NoPacket,
     /// The clock couldn't be read.
     NoClock,
     /// A write failed.
@@ -33,6 +35,7 @@ impl End {
         match self {
             End::Done => 0,
             End::BadWords => 2,
+            End::NoPacket => 4,
             End::NoClock => 6,
             End::WriteFailed => 7,
             End::OutOfMemory => 8,
@@ -46,6 +49,7 @@ impl End {
         match self {
             End::Done => b"",
             End::BadWords => b"epic_bench: words\n",
+            End::NoPacket => b"epic_bench: packet\n",
             End::NoClock => b"epic_bench: clock\n",
             End::WriteFailed => b"epic_bench: write\n",
             End::OutOfMemory => b"epic_bench: memory\n",
@@ -80,6 +84,13 @@ fn print<R: Clock + AllocGlobal, O: Sink>(rt: &R, request: Request, out: &mut O)
     }
 }
 
+/// Tells the end to the errors. A failure of theirs changes nothing else.
+fn tell<E: Sink>(err: &mut E, end: End)
+    ensures { AppendsFront (E.written err.old) (E.written err.new) (error_line end) }
+{
+    let _ = write_all(err, end.line());
+}
+
 /// Does what the words after the program's name ask for: `WORK ROUNDS` prints the line of a work with its time, `digests
 /// ROUNDS` the lines of all works without times.
 pub(crate) fn bench<R: Clock + AllocGlobal, O: Sink, E: Sink>(
@@ -98,6 +109,6 @@ pub(crate) fn bench<R: Clock + AllocGlobal, O: Sink, E: Sink>(
         Some(request) => print(rt, request, out),
         None => End::BadWords,
     };
-    let _ = write_all(err, end.line());
+    tell(err, end);
     end
 }

@@ -42,6 +42,7 @@ fn work(word: &str) -> Option<Work>
         "aes" => Some(Work::Aes),
         "cmac" => Some(Work::Cmac),
         "short" => Some(Work::Short),
+        "turn" => Some(Work::Turn),
         _ => None,
     }
 }

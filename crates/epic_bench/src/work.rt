@@ -1,13 +1,19 @@
 //! The works that are measured.
 
-ghost use Rattle.std.specs.Prelude.{◌≡◌, ◌*◌, length};
+ghost use Rattle.std.specs.Prelude.{◌≡◌, length, IfOk, IfErr};
 ghost use Rattle.std.specs.Fn.{iterate};
 ghost use Rattle.epic_aes.specs.Chain.{chain};
 ghost use Rattle.epic_cmac.specs.Cmac.{cmac};
-ghost use Rattle.epic_bench.specs.Works.{message, name_of, operations, unit_of, value};
+ghost use Rattle.epic_bench.specs.Run.{MakesNothing};
+ghost use Rattle.epic_bench.specs.Tasks.{work_of_task};
+ghost use Rattle.epic_bench.specs.Works.{IsDigest, chained, message, name_of, operations, tagged, unit_of};
 
+use crate::top::End;
+use crate::turns::turn_rounds;
+use crate::way::Way;
 use epic_aes::Aes;
 use epic_cmac::cmac;
+use std::alloc::Global;
 
 /// What is measured.
 #[derive(Clone, Copy, Debug)]
@@ -18,6 +24,8 @@ pub(crate) enum Work {
     Cmac,
     /// Tags of 27 bytes, each under a key of its own.
     Short,
+    /// Turns of the eight routers on the way of a packet of level 0.
+    Turn,
 }
 
 /// The key of the chain, and the value that each work begins with: the key of the examples of RFC 4493 4.
@@ -34,6 +42,7 @@ impl Work {
             Work::Aes => "aes",
             Work::Cmac => "cmac",
             Work::Short => "short",
+            Work::Turn => "turn",
         }
     }
 
@@ -44,6 +53,7 @@ impl Work {
         match self {
             Work::Aes => "blocks",
             Work::Cmac | Work::Short => "messages",
+            Work::Turn => "turns",
         }
     }
 
@@ -54,6 +64,7 @@ impl Work {
         let each = match self {
             Work::Aes => 64,
             Work::Cmac | Work::Short => 1,
+            Work::Turn => 8,
         };
         each * u64::from(rounds)
     }
@@ -93,7 +104,7 @@ fn fill(bytes: &mut [u8], seed: u32)
 }
 
 fn aes_value(rounds: u32) -> [u8; 16]
-    ensures { result ≡ value Work.Aes rounds }
+    ensures { result ≡ chained rounds }
 {
     let mut bytes = [0; 1024];
     fill(&mut bytes, rounds);
@@ -102,7 +113,7 @@ fn aes_value(rounds: u32) -> [u8; 16]
 }
 
 fn cmac_value(rounds: u32) -> [u8; 16]
-    ensures { result ≡ value Work.Cmac rounds }
+    ensures { result ≡ tagged 1500 rounds }
 {
     let mut message = [0; 1500];
     fill(&mut message, rounds);
@@ -110,20 +121,45 @@ fn cmac_value(rounds: u32) -> [u8; 16]
 }
 
 fn short_value(rounds: u32) -> [u8; 16]
-    ensures { result ≡ value Work.Short rounds }
+    ensures { result ≡ tagged 27 rounds }
 {
     let mut message = [0; 27];
     fill(&mut message, rounds);
     tag_rounds(&message, rounds)
 }
 
-/// The value of a work after all its rounds.
-pub(crate) fn perform(work: Work, rounds: u32) -> [u8; 16]
-    ensures { result ≡ value work rounds }
-{
-    match work {
-        Work::Aes => aes_value(rounds),
-        Work::Cmac => cmac_value(rounds),
-        Work::Short => short_value(rounds),
+/// A work made ready.
+#[derive(Drop)]
+pub(crate) enum Task {
+    Aes,
+    Cmac,
+    Short,
+    Turn(Way),
+}
+
+impl Task {
+    /// Makes a work ready.
+    pub(crate) fn new(alloc: Global, work: Work) -> Result<Task, End>
+        ensures ok { IfOk result (λ task. work_of_task task ≡ work) }
+        ensures err { IfErr result MakesNothing }
+    {
+        match work {
+            Work::Aes => Ok(Task::Aes),
+            Work::Cmac => Ok(Task::Cmac),
+            Work::Short => Ok(Task::Short),
+            Work::Turn => Ok(Task::Turn(Way::new(alloc)?)),
+        }
+    }
+
+    /// Does so many rounds, and gives their digest.
+    pub(crate) fn run(&mut self, rounds: u32) -> [u8; 16]
+        ensures { IsDigest (work_of_task self.old) rounds result }
+    {
+        match self {
+            Task::Aes => aes_value(rounds),
+            Task::Cmac => cmac_value(rounds),
+            Task::Short => short_value(rounds),
+            Task::Turn(way) => turn_rounds(&way.topo, &mut way.packet, rounds),
+        }
     }
 }
