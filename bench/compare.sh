@@ -1,0 +1,84 @@
+#!/usr/bin/env bash
+# Times the proved cipher and its tags against C and, where it is there, OpenSSL: `bench/compare.sh [RUNS]`. All programs run
+# in turn, each many short times; the least time of each is taken, and ratios are printed (more than 1: the proved one is
+# faster). Nothing else should run on the machine.
+set -u
+root=$(cd "$(dirname "${BASH_SOURCE[0]}")/.." && pwd) || exit 2
+crate=$root/crates/epic_bench
+runs=${1:-60}
+room=$(mktemp -d) || exit 2
+trap 'rm -rf "$room"' EXIT
+
+# How many rounds a run has, some two milliseconds.
+declare -A rounds=([aes]=600 [cmac]=400 [short]=8000 [turn]=400)
+works=(aes cmac short turn)
+names=()
+
+build() { # NAME, and rt's words: proves and builds the program
+  if ! (cd "$crate" && rt run "${@:2}" -- digests 1) >"$room/log" 2>&1; then
+    echo "$1: not built: $(grep -m 1 '^rt:\|error' "$room/log")"
+    return
+  fi
+  cp "$crate/out/epic_bench" "$room/$1" && names+=("$1")
+}
+
+build rattle --backend rattle
+build llvm
+if ${CC:-gcc} -O2 -o "$room/c" "$root/bench/cmac.c"; then names+=(c); fi
+
+# The C program has no turns.
+for name in "${names[@]}"; do
+  if [ "$name" = c ]; then skipped=turn; else skipped=none; fi
+  if ! "$room/$name" digests 3 | cmp -s - <(grep -v "^$skipped " "$crate/stdout"); then
+    echo "$name: wrong digests"
+    exit 1
+  fi
+done
+
+for ((i = 0; i < runs; i++)); do
+  for work in "${works[@]}"; do
+    for name in "${names[@]}"; do
+      [ "$name $work" = "c turn" ] && continue
+      "$room/$name" "$work" "${rounds[$work]}" | awk -v name="$name" '{ print name, $1, $(NF - 1) }' >>"$room/times"
+    done
+  done
+done
+
+# OpenSSL makes its key schedule once for all messages.
+openssl_times() { # NAME
+  local rate
+  rate=$(openssl speed -cmac aes-128-cbc -bytes 1500 -seconds 1 2>/dev/null | awk 'END { sub("k$", "", $NF); print $NF }')
+  awk -v name="$1" -v rate="$rate" 'BEGIN { if (rate > 0) print name, "cmac", 1500 * 1e6 / rate }' >>"$room/times"
+}
+if command -v openssl >/dev/null; then
+  for ((i = 0; i < 3; i++)); do
+    OPENSSL_ia32cap='~0x200000200000000' openssl_times openssl
+    openssl_times aesni
+  done
+else
+  echo "openssl: not there, skipped"
+fi
+
+grep -m 1 'model name' /proc/cpuinfo
+echo "load: $(cut -d' ' -f1-3 /proc/loadavg)"
+${CC:-gcc} --version | head -1
+command -v openssl >/dev/null && openssl version
+echo "nanoseconds an operation, the least of $runs runs"
+awk '
+  { key = $1 " " $2; if (!(key in least) || $3 < least[key]) least[key] = $3 }
+  function show(text, work, name, goal,   ours, theirs) {
+    ours = least["llvm " work]; theirs = least[name " " work]
+    if (ours > 0 && theirs > 0) printf "%-52s %8.1f / %8.1f = %5.2f%s\n", text, theirs, ours, theirs / ours, goal
+  }
+  END {
+    show("a block in a chain, C to ours", "aes", "c", " (goal 1.1)")
+    show("a tag of 1500 bytes, C to ours", "cmac", "c", " (goal 1.0)")
+    show("a tag of 27 bytes, a key each, C to ours", "short", "c", " (goal 1.0)")
+    show("a tag of 1500 bytes, OpenSSL without AES-NI to ours", "cmac", "openssl", " (goal 1.2)")
+    show("a tag of 1500 bytes, OpenSSL with AES-NI to ours", "cmac", "aesni", "")
+    show("a block in a chain, the other build to ours", "aes", "rattle", "")
+    show("a tag of 1500 bytes, the other build to ours", "cmac", "rattle", "")
+    show("a tag of 27 bytes, the other build to ours", "short", "rattle", "")
+    show("a turn of level 0, the other build to ours", "turn", "rattle", "")
+  }
+' "$room/times"

@@ -1,0 +1,3 @@
+mod Iterated
+mod Numbers
+mod Travels

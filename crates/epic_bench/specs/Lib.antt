@@ -1,0 +1,6 @@
+pub mod Turns
+pub mod Works
+pub mod Tasks
+pub mod Lines
+pub mod Request
+pub mod Run

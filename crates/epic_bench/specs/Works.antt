@@ -1,0 +1,59 @@
+-- What each work computes, and in what its operations are counted.
+use Rattle.std.specs.Prelude.{◌≡◌, ℕ, ◌+◌, ◌*◌, ◌%◌, List, map, Ok, codes}
+use Rattle.std.specs.Fn.{iterate}
+use Rattle.std.specs.List.{range_with_len}
+use Rattle.std.specs.Simd.{first_chunks}
+use Rattle.epic_aes.specs.Chain.{chain}
+use Rattle.epic_cmac.specs.Cmac.{cmac}
+use Rattle.epic_topo.specs.Network.{Network}
+use Rattle.epic_topo.specs.Reading.{topology}
+use Rattle.epic_bench.specs.declared.way.TheConstants.{CHAIN}
+use Rattle.epic_bench.specs.declared.work.TheConstants.{KEY}
+use Rattle.epic_bench.specs.declared.work.Work.{Work}
+use Rattle.epic_bench.specs.declared.work.Work.TheVariants.{Aes, Cmac, Short, Turn}
+use Rattle.epic_bench.specs.Turns.{turns_digest}
+
+-- a message of so many bytes, which count up from the seed modulo 256
+unfoldable pub message : ℕ → ℕ → List ℕ
+message seed size = map (λ i. (seed + i) % 256) (range_with_len 0 size)
+
+-- A round goes on from what the one before gave, so that every round shows in the last: 64 blocks in a chain under the one
+-- key. The message differs with the number of rounds, so that no compiler can work ahead.
+unfoldable pub chained : ℕ → List ℕ
+chained rounds = iterate (λ x. chain KEY x (first_chunks 16 64 (message rounds 1024))) rounds KEY
+
+-- likewise the tag of a message of so many bytes, under the tag before as its key
+unfoldable pub tagged : ℕ → ℕ → List ℕ
+tagged size rounds = iterate (λ key. cmac key (message rounds size)) rounds KEY
+
+-- 16 bytes that tell what a work gave in so many rounds; that of turns, for a packet down the chain
+abbrev pub IsDigest : Work → ℕ → List ℕ → Type 0
+IsDigest Aes rounds digest = digest ≡ chained rounds
+IsDigest Cmac rounds digest = digest ≡ tagged 1500 rounds
+IsDigest Short rounds digest = digest ≡ tagged 27 rounds
+IsDigest Turn rounds digest =
+    (t : Network) × (topology CHAIN.now ≡ Ok t) × ((packet : List ℕ) × (digest ≡ turns_digest t packet rounds))
+
+-- how many operations a round has
+abbrev pub operations_a_round : Work → ℕ
+operations_a_round Aes = 64
+operations_a_round Cmac = 1
+operations_a_round Short = 1
+operations_a_round Turn = 8
+
+abbrev pub operations : Work → ℕ → ℕ
+operations work rounds = operations_a_round work * rounds
+
+-- a work's word
+abbrev pub name_of : Work → List ℕ
+name_of Aes = codes "aes"
+name_of Cmac = codes "cmac"
+name_of Short = codes "short"
+name_of Turn = codes "turn"
+
+-- what its operations are called
+abbrev pub unit_of : Work → List ℕ
+unit_of Aes = codes "blocks"
+unit_of Cmac = codes "messages"
+unit_of Short = codes "messages"
+unit_of Turn = codes "turns"

@@ -1,0 +1,165 @@
+//! The works that are measured.
+
+ghost use Rattle.std.specs.Prelude.{◌≡◌, length, IfOk, IfErr};
+ghost use Rattle.std.specs.Fn.{iterate};
+ghost use Rattle.epic_aes.specs.Chain.{chain};
+ghost use Rattle.epic_cmac.specs.Cmac.{cmac};
+ghost use Rattle.epic_bench.specs.Run.{MakesNothing};
+ghost use Rattle.epic_bench.specs.Tasks.{work_of_task};
+ghost use Rattle.epic_bench.specs.Works.{IsDigest, chained, message, name_of, operations, tagged, unit_of};
+
+use crate::top::End;
+use crate::turns::turn_rounds;
+use crate::way::Way;
+use epic_aes::Aes;
+use epic_cmac::cmac;
+use std::alloc::Global;
+
+/// What is measured.
+#[derive(Clone, Copy, Debug)]
+pub(crate) enum Work {
+    /// Blocks of the cipher in a chain, 64 a round.
+    Aes,
+    /// Tags of 1,500 bytes, each under a key of its own.
+    Cmac,
+    /// Tags of 27 bytes, each under a key of its own.
+    Short,
+    /// Turns of the eight routers on the way of a packet of level 0.
+    Turn,
+}
+
+/// The key of the chain, and the value that each work begins with: the key of the examples of RFC 4493 4.
+pub(crate) const KEY: [u8; 16] = [
+    0x2b, 0x7e, 0x15, 0x16, 0x28, 0xae, 0xd2, 0xa6, 0xab, 0xf7, 0x15, 0x88, 0x09, 0xcf, 0x4f, 0x3c,
+];
+
+impl Work {
+    /// Its word on the command line.
+    pub(crate) fn name(self) -> &'static str
+        ensures { result.now ≡ name_of self }
+    {
+        match self {
+            Work::Aes => "aes",
+            Work::Cmac => "cmac",
+            Work::Short => "short",
+            Work::Turn => "turn",
+        }
+    }
+
+    /// What its operations are called.
+    pub(crate) fn unit(self) -> &'static str
+        ensures { result.now ≡ unit_of self }
+    {
+        match self {
+            Work::Aes => "blocks",
+            Work::Cmac | Work::Short => "messages",
+            Work::Turn => "turns",
+        }
+    }
+
+    /// How many operations so many rounds have.
+    pub(crate) fn operations(self, rounds: u32) -> u64
+        ensures { result ≡ operations self rounds }
+    {
+        let each = match self {
+            Work::Aes => 64,
+            Work::Cmac | Work::Short => 1,
+            Work::Turn => 8,
+        };
+        each * u64::from(rounds)
+    }
+}
+
+// Not inlined, nor is the next, so that the sizes of messages are no constants there.
+#[inline(never)]
+fn chain_rounds(blocks: &[[u8; 16]], rounds: u32) -> [u8; 16]
+    ensures { result ≡ iterate (λ x. chain KEY x blocks.now) rounds KEY }
+{
+    let aes = Aes::new(&KEY);
+    let mut x = KEY;
+    for _ in 0..rounds {
+        aes.chain(&mut x, blocks);
+    }
+    x
+}
+
+#[inline(never)]
+fn tag_rounds(message: &[u8], rounds: u32) -> [u8; 16]
+    ensures { result ≡ iterate (λ key. cmac key message.now) rounds KEY }
+{
+    let mut key = KEY;
+    for _ in 0..rounds {
+        let tag = cmac(&key, message);
+        key = tag;
+    }
+    key
+}
+
+fn fill(bytes: &mut [u8], seed: u32)
+    ensures { bytes.new ≡ message seed (length bytes.old) }
+{
+    for (i, byte) in bytes.iter_mut().enumerate() {
+        *byte = ((u64::from(seed) + i as u64) % 256) as u8;
+    }
+}
+
+fn aes_value(rounds: u32) -> [u8; 16]
+    ensures { result ≡ chained rounds }
+{
+    let mut bytes = [0; 1024];
+    fill(&mut bytes, rounds);
+    let (blocks, _) = bytes.as_chunks::<16>();
+    chain_rounds(blocks, rounds)
+}
+
+fn cmac_value(rounds: u32) -> [u8; 16]
+    ensures { result ≡ tagged 1500 rounds }
+{
+    let mut message = [0; 1500];
+    fill(&mut message, rounds);
+    tag_rounds(&message, rounds)
+}
+
+fn short_value(rounds: u32) -> [u8; 16]
+    ensures { result ≡ tagged 27 rounds }
+{
+    let mut message = [0; 27];
+    fill(&mut message, rounds);
+    tag_rounds(&message, rounds)
+}
+
+/// A work made ready.
+#[derive(Drop)]
+pub(crate) enum Task {
+    Aes,
+    Cmac,
+    Short,
+    Turn(Way),
+}
+
+impl Task {
+    /// Makes a work ready.
+    pub(crate) fn new(alloc: Global, work: Work) -> Result<Task, End>
+        ensures ok { IfOk result (λ task. work_of_task task ≡ work) }
+        ensures err { IfErr result MakesNothing }
+    {
+        match work {
+            Work::Aes => Ok(Task::Aes),
+            Work::Cmac => Ok(Task::Cmac),
+            Work::Short => Ok(Task::Short),
+            Work::Turn => Ok(Task::Turn(Way::new(alloc)?)),
+        }
+    }
+
+    /// Does so many rounds, and gives their digest.
+    pub(crate) fn run(&mut self, rounds: u32) -> [u8; 16]
+        ensures { IsDigest (work_of_task self.old) rounds result }
+    {
+        match self {
+            Task::Aes => aes_value(rounds),
+            Task::Cmac => cmac_value(rounds),
+            Task::Short => short_value(rounds),
+            Task::Turn(way) => turn_rounds(&way.topo, &mut way.packet, rounds),
+        }
+    }
+}
