@@ -1,5 +1,5 @@
 -- What a report claims, from the contract of the top call.
-use Rattle.std.proofs.Common.{◌≡◌, ◌↔◌, ℕ, ◌+◌, ◌<◌, Bool, true, false, cond, ltb, ◌||◌, List, [], ◌∷◌, length, Option, Some, None, Result, Ok, Err, count_by, IsTrue, refl, sym, ap, ◌∙◌, arith}
+use Rattle.std.proofs.Common.{get_or, ◌≡◌, ◌↔◌, ℕ, ◌+◌, ◌<◌, Bool, true, false, cond, ltb, ◌||◌, List, [], ◌∷◌, length, Option, Some, None, Result, Ok, Err, count_by, IsTrue, refl, sym, ap, ◌∙◌, arith}
 use Rattle.std.specs.List.{All, list_any}
 use Rattle.std.specs.Option.{option_map, option_and_then}
 use Rattle.std.proofs.lemmas.Bool.Decides.{nat_tests}
@@ -131,7 +131,7 @@ from_script t (Err (line, kind)) false ending is below = absurd (omega (arith, a
 
 -- what each of a list keeps
 all_map : {X : Type 0} (P Q : X → Type 0) (xs : List X) → ((x : X) → P x → Q x) → All P xs → All Q xs
-all_map P Q xs f h = λ k d within. f d (h k d within)
+all_map P Q xs f h = λ k d within. f (get_or xs k d) (h k d within)
 
 every_verdict_holds : StartIsSound → RunsAreSound → (t : Network) (text script : List ℕ) (commands : List Command) → topology text ≡ Ok t → commands_of run_rule script ≡ Ok commands
     → All (VerdictsHold t) (run t commands)
