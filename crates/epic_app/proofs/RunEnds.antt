@@ -1,8 +1,6 @@
 -- How the command `run` ends, from what its steps ensure.
-use Rattle.std.proofs.Common.{◌≡◌, ◌≢◌, ℕ, ◌<◌, ◌≤◌, ltb, Bool, true, false, cond, List, [], ◌∷◌, map, length, Option, Some, None, Result, Ok, Err, Contains, bytes_eq, refl, sym, ap, subst, ◌∙◌, inl, arith}
+use Rattle.std.proofs.Common.{◌≡◌, ℕ, ◌<◌, ◌≤◌, Bool, true, false, cond, List, [], ◌∷◌, map, length, Option, Some, None, Result, Ok, Err, Contains, bytes_eq, refl, sym, ap, subst, ◌∙◌, inl, arith}
 use Rattle.std.proofs.lemmas.Slice.Eq.{bytes_eq-Decides}
-use Rattle.std.specs.Global.{Vec}
-use Rattle.std.specs.Option.{option_map}
 use Rattle.epic_num.specs.declared.command.Command.{Command}
 use Rattle.epic_ports.specs.Faults.{CountsOnly, Rose}
 use Rattle.epic_ports.specs.Files.{Files, KeepsFiles}
@@ -21,7 +19,7 @@ use Rattle.epic_app.specs.declared.end.End.{End}
 use Rattle.epic_app.specs.declared.end.End.TheVariants.{Done, BadWords, BadTopology, LongTopology, BadScript, LongScript, ReadFault, WriteFault, OutOfMemory}
 use Rattle.epic_world.specs.Run.{run}
 use Rattle.epic_app.specs.RunReport.{run_text, has_alarm}
-use Rattle.epic_app.specs.Request.{Request, Run, Contents, Ending, ending_of, report_of, run_ending, network_ending, script_ending, run_told, refused, no_topology, fault_line, too_long_line, topology_line, long_topology_line}
+use Rattle.epic_app.specs.Request.{Run, Contents, Ending, ending_of, run_ending, network_ending, script_ending, run_told, refused, no_topology, fault_line, too_long_line, topology_line, long_topology_line}
 use Rattle.epic_app.specs.Outcome.{World, AsTold, EndsByFiles, WriteFails, MemoryEnds, CountsStay}
 use Rattle.epic_app.specs.End.{EndsAs, HasCause, IsStatus}
 use Rattle.epic_app.specs.RunFiles.{Within, Past, ReadsTopology, ReadsScript}

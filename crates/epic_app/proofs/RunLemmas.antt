@@ -1,11 +1,10 @@
 -- A run, step by step.
-use Rattle.std.proofs.Common.{◌≡◌, ℕ, zero, suc, ◌+◌, ◌<◌, ◌≤◌, Bool, true, false, not, ◌||◌, ltb, cond, List, [], ◌∷◌, ◌++◌, length, take, drop, get_or, Result, Ok, Err, count_by, flat_map, refl, sym, ap, ◌∙◌, arith, append-nil, append_assoc, take_all, zero-add}
+use Rattle.std.proofs.Common.{◌≡◌, ℕ, suc, ◌+◌, ◌<◌, ◌≤◌, Bool, true, false, not, ◌||◌, ltb, cond, List, [], ◌∷◌, ◌++◌, length, take, drop, get_or, Result, Ok, Err, count_by, flat_map, refl, sym, ap, ◌∙◌, arith, append-nil, append_assoc, take_all, zero-add}
 use Rattle.std.specs.List.{list_any}
 use Rattle.std.proofs.lemmas.Bool.Decides.{nat_tests}
 use Rattle.std.proofs.lemmas.List.{take_more, drop_more, drop_all, take-append-drop}
 use Rattle.std.proofs.lemmas.List.Concat.{flat_map-append}
 use Rattle.std.proofs.lemmas.List.Sums.{sum_by-cons}
-use Rattle.epic_num.specs.declared.answer.Answer.{Answer}
 use Rattle.epic_num.specs.declared.command.Command.{Command}
 use Rattle.epic_num.specs.declared.verdict.Verdict.{Verdict}
 use Rattle.epic_topo.specs.Network.{Network}
@@ -73,7 +72,7 @@ verdicts_last t s xs c =
 -- the whole text, in what a front of the commands gives and the rest
 pub text_front : (t : Network) (s : State) (xs : List Command) (c : Command) (ys : List Command)
     → steps_text t (run_from t s (xs ++ c ∷ ys))
-      ≡ steps_text t (run_from t s xs) ++ (step_text t (done_by t (state_after t s xs) c) ++ steps_text t (run_from t (next t (state_after t s xs) c).state ys))
+    ≡ steps_text t (run_from t s xs) ++ (step_text t (done_by t (state_after t s xs) c) ++ steps_text t (run_from t (next t (state_after t s xs) c).state ys))
 unfolding steps_text run_from
 text_front t s xs c ys =
     ap (flat_map (step_text t)) (run_from-append t s xs (c ∷ ys))
@@ -174,9 +173,10 @@ module _ (t : Network) (cs : List Command) (i : ℕ) (d : Command) (within : i <
       let rest = steps_text t (run_from t (next t s c).state (drop (i + 1) cs)) in
       let end = end_line (counts_of (length (run_from t start cs)) (all_verdicts (run_from t start cs))) in
       let whole : cs ≡ take i cs ++ c ∷ drop (i + 1) cs = sym (take-append-drop i cs) ∙ ap (λ ys. take i cs ++ ys) (drop_more cs i d within) in
-      let steps : steps_text t (run_from t start cs) ≡ front ++ (line ++ rest) = ap (λ xs. steps_text t (run_from t start xs)) whole ∙ text_front t start (take i cs) c (drop (i + 1) cs) in
-      (rest ++ end,
-      ap (λ text. text ++ end) steps ∙ (append_assoc front (line ++ rest) end ∙ ap (λ text. front ++ text) (append_assoc line rest end)))
+      let steps : steps_text t (run_from t start cs) ≡ front ++ (line ++ rest) = ap (λ xs. steps_text t (run_from t start xs)) whole ∙ text_front t start (take i cs) c (drop (i + 1) cs) in (
+        rest ++ end,
+        ap (λ text. text ++ end) steps ∙ (append_assoc front (line ++ rest) end ∙ ap (λ text. front ++ text) (append_assoc line rest end)),
+      )
 
 -- the end of the report
 pub run_whole : (t : Network) (cs : List Command) (i : ℕ) (c : Counts) → length cs ≤ i → c ≡ counts_of 0 (all_verdicts (run_from t start (take i cs)))
@@ -186,8 +186,8 @@ run_whole t cs i c past is =
     let all : take i cs ≡ cs = take_all i cs past in
     let counts : c ≡ counts_of 0 (all_verdicts (run_from t start cs)) = is ∙ ap (λ xs. counts_of 0 (all_verdicts (run_from t start xs))) all in
     let ended : end_line (record c { steps = length cs }) ≡ end_line (counts_of (length (run_from t start cs)) (all_verdicts (run_from t start cs))) =
-        ap (λ (k : Counts). end_line (record k { steps = length cs })) counts
-        ∙ ap (λ n. end_line (counts_of n (all_verdicts (run_from t start cs)))) (sym (length-run_from t start cs)) in
+    ap (λ (k : Counts). end_line (record k { steps = length cs })) counts
+    ∙ ap (λ n. end_line (counts_of n (all_verdicts (run_from t start cs)))) (sym (length-run_from t start cs)) in
     rw (all, ended) refl
 
 pub run_alarms : (t : Network) (cs : List Command) (i : ℕ) (c : Counts) → length cs ≤ i → c ≡ counts_of 0 (all_verdicts (run_from t start (take i cs)))

@@ -1,5 +1,5 @@
 -- The commands of a run's script are those that a world takes.
-use Rattle.std.proofs.Common.{◌≡◌, ℕ, ◌+◌, ◌<◌, ◌≤◌, ◌^◌, Bool, true, false, ltb, cond, List, [], ◌∷◌, ◌++◌, Option, Some, None, Result, Ok, Err, refl, sym, ap, subst, ◌∙◌, arith}
+use Rattle.std.proofs.Common.{◌≡◌, ℕ, ◌+◌, ◌<◌, Bool, true, false, ltb, cond, List, [], ◌∷◌, ◌++◌, Option, Some, None, Result, Ok, Err, refl, subst, arith}
 use Rattle.std.specs.Prelude.{codes, bytes_eq}
 use Rattle.std.specs.List.{All, list_all}
 use Rattle.std.specs.Result.{result_ok}
@@ -10,7 +10,6 @@ use Rattle.hex.proofs.HexLemmas.{decode_of-ok}
 use Rattle.epic_num.specs.declared.command.Command.{Command}
 use Rattle.epic_num.specs.declared.command.Command.TheVariants as command
 use Rattle.epic_num.specs.declared.moment.TheConstants.{MAX_MOMENT}
-use Rattle.epic_num.specs.declared.name.AsId.{AsId}
 use Rattle.epic_num.specs.Names.{number_within}
 use Rattle.epic_num.proofs.OneSpelling.{number_spelling}
 use Rattle.epic_layout.specs.Contents.{IsBytes}
@@ -19,7 +18,7 @@ use Rattle.epic_text.specs.declared.script.ScriptKind.TheVariants.{NotText, TooM
 use Rattle.epic_text.specs.declared.script.TheConstants.{MAX_COMMANDS}
 use Rattle.epic_text.specs.Lines.{is_text_byte, lines, words}
 use Rattle.epic_text.specs.RunScript.{run_rule, on_word, at_of, originate_of, extend_of, fetch_of, paths_of, turn_of, as_named, bytes_of, most8, most16, most32, most64}
-use Rattle.epic_text.specs.Script.{Rule, Fault, line_command, words_command, some_command, is_comment, at_line, numbered, commands_after, commands_of, with_front}
+use Rattle.epic_text.specs.Script.{Fault, line_command, words_command, some_command, is_comment, at_line, numbered, commands_after, commands_of, with_front}
 use Rattle.epic_world.specs.Next.{is_taken, HasMoment}
 use Rattle.epic_world.specs.Sound.{CarriesBytes}
 use Rattle.epic_app.specs.RunFiles.{IsTakenUp}
@@ -146,16 +145,16 @@ of_words : (ws : List (List ℕ)) (c : Command) → words_command run_rule ws �
 of_words [] c h = absurd (cc)
 of_words (verb ∷ arguments) c h = by (is_comment verb) h
   where
-  by : (b : Bool) → cond b (Ok None) (some_command (run_rule verb arguments)) ≡ Ok (Some c) → IsTakenUp c
-  by true k = absurd (cc)
-  by false k = rule_taken verb arguments c (ruled (run_rule verb arguments) c k)
+    by : (b : Bool) → cond b (Ok None) (some_command (run_rule verb arguments)) ≡ Ok (Some c) → IsTakenUp c
+    by true k = absurd (cc)
+    by false k = rule_taken verb arguments c (ruled (run_rule verb arguments) c k)
 
 of_line : (line : List ℕ) (c : Command) → line_command run_rule line ≡ Ok (Some c) → IsTakenUp c
 of_line line c h = by (list_all is_text_byte line) h
   where
-  by : (b : Bool) → cond b (words_command run_rule (words line)) (Err NotText) ≡ Ok (Some c) → IsTakenUp c
-  by true k = of_words (words line) c k
-  by false k = absurd (cc)
+    by : (b : Bool) → cond b (words_command run_rule (words line)) (Err NotText) ≡ Ok (Some c) → IsTakenUp c
+    by true k = of_words (words line) c k
+    by false k = absurd (cc)
 
 abbrev IsGood : ℕ × Result Command ScriptKind → Type 0
 IsGood (line, Ok c) = IsTakenUp c
@@ -165,11 +164,11 @@ of_numbered : (number : ℕ) (ls : List (List ℕ)) → All IsGood (numbered run
 of_numbered number [] = All-nil IsGood
 of_numbered number (line ∷ more) = by (of_numbered (number + 1) more) (line_command run_rule line) refl
   where
-  by : All IsGood (numbered run_rule (number + 1) more) → (r : Result (Option Command) ScriptKind) → line_command run_rule line ≡ r
-      → All IsGood (at_line number r (numbered run_rule (number + 1) more))
-  by rest (Ok None) e = rest
-  by rest (Ok (Some c)) e = All-cons IsGood (number, Ok c) (numbered run_rule (number + 1) more) (of_line line c e) rest
-  by rest (Err kind) e = All-cons IsGood (number, Err kind) (numbered run_rule (number + 1) more) tt rest
+    by : All IsGood (numbered run_rule (number + 1) more) → (r : Result (Option Command) ScriptKind) → line_command run_rule line ≡ r
+        → All IsGood (at_line number r (numbered run_rule (number + 1) more))
+    by rest (Ok None) e = rest
+    by rest (Ok (Some c)) e = All-cons IsGood (number, Ok c) (numbered run_rule (number + 1) more) (of_line line c e) rest
+    by rest (Err kind) e = All-cons IsGood (number, Err kind) (numbered run_rule (number + 1) more) tt rest
 
 fronted : (front : List Command) (r : Result (List Command) Fault) (cs : List Command) → with_front front r ≡ Ok cs → (ds : List Command) × (r ≡ Ok ds) × (front ++ ds ≡ cs)
 fronted front (Ok ds) cs h = (ds, refl, cc)
@@ -180,11 +179,11 @@ of_entries count [] cs good h = let same : [] ≡ cs = cc in subst (All IsTakenU
 of_entries count ((line, Err kind) ∷ more) cs good h = absurd (cc)
 of_entries count ((line, Ok c) ∷ more) cs good h = by (λ ds is. of_entries (count + 1) more ds (All-tail IsGood (line, Ok c) more good) is) (ltb count MAX_COMMANDS) h
   where
-  by : ((ds : List Command) → commands_after (count + 1) more ≡ Ok ds → All IsTakenUp ds) → (b : Bool) → cond b (with_front (c ∷ []) (commands_after (count + 1) more)) (Err (line, TooMany)) ≡ Ok cs → All IsTakenUp cs
-  by others true k =
-      let (ds, is, all) = fronted (c ∷ []) (commands_after (count + 1) more) cs k in
-      subst (All IsTakenUp) all (All-cons IsTakenUp c ds (All-head IsGood (line, Ok c) more good) (others ds is))
-  by others false k = absurd (cc)
+    by : ((ds : List Command) → commands_after (count + 1) more ≡ Ok ds → All IsTakenUp ds) → (b : Bool) → cond b (with_front (c ∷ []) (commands_after (count + 1) more)) (Err (line, TooMany)) ≡ Ok cs → All IsTakenUp cs
+    by others true k =
+        let (ds, is, all) = fronted (c ∷ []) (commands_after (count + 1) more) cs k in
+        subst (All IsTakenUp) all (All-cons IsTakenUp c ds (All-head IsGood (line, Ok c) more good) (others ds is))
+    by others false k = absurd (cc)
 
 pub commands_taken : (text : List ℕ) (cs : List Command) → commands_of run_rule text ≡ Ok cs → All IsTakenUp cs
 commands_taken text cs h = of_entries 0 (numbered run_rule 1 (lines text)) cs (of_numbered 1 (lines text)) h

@@ -1,10 +1,9 @@
 -- The answers of steps can be told: the keys and tags that their lines show are of ASes of the topology.
-use Rattle.std.proofs.Common.{◌≡◌, ℕ, ◌+◌, ◌<◌, Bool, true, false, not, ltb, cond, zero, suc, ◌-◌, Contains, List, [], ◌∷◌, ◌++◌, length, slice_index, Option, Some, None, Result, Ok, Err, IsTrue, find, slice_get, refl, sym, ap, ◌∙◌, arith}
+use Rattle.std.proofs.Common.{◌≡◌, ℕ, ◌+◌, ◌<◌, Bool, true, false, not, ltb, cond, suc, ◌-◌, List, [], ◌∷◌, ◌++◌, length, slice_index, Option, Some, None, Result, Ok, Err, IsTrue, find, slice_get, refl, sym, ap, arith}
 use Rattle.std.specs.Prelude.{option_map, option_and_then, unwrap_or}
-use Rattle.std.specs.List.{All, list_any}
 use Rattle.std.proofs.lemmas.List.Elements.{All-cons, All-nil, filter_map-append}
-use Rattle.epic_num.specs.Chains.{Issue, issue_at, name_of}
-use Rattle.epic_num.specs.Levels.{is_first_byte, is_tagged}
+use Rattle.epic_num.specs.Chains.{Issue, name_of}
+use Rattle.epic_num.specs.Levels.{is_tagged}
 use Rattle.epic_num.specs.declared.answer.Answer.{Answer}
 use Rattle.epic_num.specs.declared.answer.Answer.TheVariants as answer
 use Rattle.epic_num.specs.declared.beacon_error.BeaconError.{BeaconError}
@@ -19,15 +18,12 @@ use Rattle.epic_app.specs.RunReport.{issued_in, is_carried, ShowsBytes}
 use Rattle.epic_num.specs.declared.command.Command.{Command}
 use Rattle.epic_num.specs.declared.command.Command.TheVariants as command
 use Rattle.epic_num.specs.declared.hop.HopName.{HopName}
-use Rattle.epic_num.specs.declared.key_name.KeyName.{KeyName}
 use Rattle.epic_num.specs.declared.name.AsId.{AsId}
-use Rattle.epic_num.specs.declared.passed.Passed.{Passed}
-use Rattle.epic_num.specs.declared.passed.Place.{Place}
 use Rattle.epic_num.specs.declared.turn.Turn.{Turn}
 use Rattle.epic_num.specs.declared.turn.Turn.TheVariants.{Forward, Deliver, Refused}
 use Rattle.epic_num.proofs.ChainLaws.{issue_at-next}
 use Rattle.epic_layout.specs.Contents.{Contents, hop_count}
-use Rattle.epic_layout.specs.Layout.{fault, parse}
+use Rattle.epic_layout.specs.Layout.{parse}
 use Rattle.epic_layout.specs.Route.{place, is_first}
 use Rattle.epic_topo.specs.Network.{Network, has}
 use Rattle.epic_keys.specs.Issues.{IssuesKept}
@@ -36,12 +32,11 @@ use Rattle.epic_beacon.specs.Issuing.{originated, extended}
 use Rattle.epic_fields.specs.HopChecks.{hop_name}
 use Rattle.epic_fields.specs.PacketTags.{field_name}
 use Rattle.epic_path.specs.Routes.{all_lawful}
-use Rattle.epic_router.specs.Accepted.{IsAccepted, IsRightTurn}
+use Rattle.epic_router.specs.Accepted.{IsRightTurn}
 use Rattle.epic_router.specs.Turns.{turn_of}
 use Rattle.epic_router.proofs.AcceptedLaws.{turns_are_right}
 use Rattle.epic_ledger.specs.Facts.{Facts, Pass, facts_of, issues_in, pass_name}
-use Rattle.epic_ledger.specs.History.{History}
-use Rattle.epic_ledger.specs.Queries.{issue_of, chain_pass, is_on_path}
+use Rattle.epic_ledger.specs.Queries.{chain_pass, is_on_path}
 use Rattle.epic_ledger.specs.declared.event.Event.{Event}
 use Rattle.epic_audit.specs.Clauses.{higher, lower}
 use Rattle.epic_audit.specs.ForgedText.{has_form, fits_level}
@@ -70,9 +65,9 @@ lower_known : (t : Network) (w x : HopName) → IsTrue (has t w.asn) → IsTrue 
 unfolding lower
 lower_known t w x known here = cond_known (ltb w.body.pos x.body.pos)
   where
-  cond_known : (b : Bool) → IsTrue (has t (cond b w x).asn)
-  cond_known true = known
-  cond_known false = here
+    cond_known : (b : Bool) → IsTrue (has t (cond b w x).asn)
+    cond_known true = known
+    cond_known false = here
 
 broken_left : (issues : List Issue) (z : HopName) (o : Option ℕ) (b : Bool) (pair : HopName × HopName) → broken issues z o b ≡ Some pair → pair.0 ≡ z
 broken_left issues z None b pair h = absurd (cc)
@@ -86,15 +81,15 @@ pair_known : (t : Network) (f : Facts) (x : HopName) (p : Contents) (j : ℕ) �
 unfolding broken_chain broken_between chain_pass pass_name
 pair_known t f x p j kept here pair h = by (is_first (place p.route.segments j)) (chain_pass f.passes p.route (j - 1)) refl h
   where
-  by : (b : Bool) (o : Option Pass) → chain_pass f.passes p.route (j - 1) ≡ o
-      → cond b None (option_and_then (λ w. broken_between f.issues (higher (pass_name w) x) (lower (pass_name w) x)) o) ≡ Some pair
-      → IsTrue (has t pair.0.asn)
-  by true o e s = absurd (cc)
-  by false None e s = absurd (cc)
-  by false (Some w) e s =
-      let (n, there) = found_there (is_on_path p.route (j - 1)) f.passes w e in
-      let left : pair.0 ≡ lower (pass_name w) x = broken_left f.issues (lower (pass_name w) x) _ _ pair s in
-      rw left (lower_known t (pass_name w) x (kept n w there).known here)
+    by : (b : Bool) (o : Option Pass) → chain_pass f.passes p.route (j - 1) ≡ o
+        → cond b None (option_and_then (λ w. broken_between f.issues (higher (pass_name w) x) (lower (pass_name w) x)) o) ≡ Some pair
+        → IsTrue (has t pair.0.asn)
+    by true o e s = absurd (cc)
+    by false None e s = absurd (cc)
+    by false (Some w) e s =
+        let (n, there) = found_there (is_on_path p.route (j - 1)) f.passes w e in
+        let left : pair.0 ≡ lower (pass_name w) x = broken_left f.issues (lower (pass_name w) x) _ _ pair s in
+        rw left (lower_known t (pass_name w) x (kept n w there).known here)
 
 -- a line of the table can be told, where what it tells of is of the topology
 lines_told : (t : Network) (p : Contents) (x : HopName) (j : ℕ) → j < hop_count p → IsTrue (has t x.asn)

@@ -8,7 +8,7 @@ use Rattle.epic_topo.specs.Network.{Network}
 use Rattle.epic_topo.specs.Reading.{topology}
 use Rattle.epic_topo.specs.declared.fault.TopoError.TheVariants.{Bad}
 use Rattle.epic_text.specs.RunScript.{run_rule}
-use Rattle.epic_text.specs.Script.{Fault, commands_of}
+use Rattle.epic_text.specs.Script.{commands_of}
 use Rattle.epic_world.specs.Next.{is_taken, HasMoment}
 use Rattle.epic_world.specs.Sound.{CarriesBytes}
 use Rattle.epic_app.specs.declared.end.End.{End}

@@ -10,7 +10,7 @@ use Rattle.epic_num.specs.declared.verdict.Verdict.{Verdict}
 use Rattle.epic_num.specs.Chains.{Issue, name_of}
 use Rattle.epic_topo.specs.Network.{Network}
 use Rattle.epic_ledger.specs.Facts.{issues_in}
-use Rattle.epic_ledger.specs.History.{History, Emission, emission_at}
+use Rattle.epic_ledger.specs.History.{Emission, emission_at}
 use Rattle.epic_world.specs.Run.{Done}
 use Rattle.epic_world.specs.State.{State}
 use Rattle.epic_text.specs.declared.counts.Counts.{Counts}

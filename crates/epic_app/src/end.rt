@@ -9,15 +9,17 @@ ghost use Rattle.epic_app.specs.Outcome.{Tells, error_sink};
 ghost use Rattle.epic_app.specs.Request.{fault_line, named_line, topology_line};
 
 use epic_ports::{PortError, Sink, write_all};
-use epic_topo::{TopoKey, TopoKind};
 use epic_text::ScriptKind;
+use epic_topo::{TopoKey, TopoKind};
 use itoa::Buffer;
 
 /// How a command ended.
 #[derive(Clone, Copy, Debug)]
 pub enum End<'a> {
     /// The run was done; some tag was forged or stands for two hops, or none.
-    Done { forged: bool },
+    Done {
+        forged: bool,
+    },
     /// The words are no command.
     BadWords,
     /// The topology is refused: its first fault.
@@ -29,7 +31,10 @@ pub enum End<'a> {
     /// The topology is too long.
     LongTopology,
     /// This line of the script, counted from 1, is refused.
-    BadScript { line: u32, kind: ScriptKind },
+    BadScript {
+        line: u32,
+        kind: ScriptKind,
+    },
     /// The script is too long.
     LongScript,
     /// A read of the file with this name failed.

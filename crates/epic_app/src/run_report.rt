@@ -103,13 +103,7 @@ fn step_lines(
 {
     let shown = shown(world.ledger(), command, answer);
     let mut text = Vec::new(alloc);
-    print_answer(
-        &mut text,
-        world.steps(),
-        world.topology(),
-        &shown,
-        answer,
-    )?;
+    print_answer(&mut text, world.steps(), world.topology(), &shown, answer)?;
     Ok(text)
 }
 

@@ -1,6 +1,4 @@
-use Rattle.std.proofs.Common.{◌≡◌, ◌<◌, ℕ, List, ◌∷◌, drop, length, ap, sym, ◌∙◌, arith}
-use Rattle.std.proofs.lemmas.List.{drop_more, drop_all}
-use Rattle.epic_app.specs.RunReport.{count_all}
+use Rattle.std.proofs.Common.{arith}
 use Rattle.epic_app.proofs.RunLemmas.{count_step, count_end}
 use Rattle.epic_app.proofs.run_report.count_each.Goals as goal
 

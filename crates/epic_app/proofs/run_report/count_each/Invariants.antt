@@ -1,4 +1,4 @@
-use Rattle.std.proofs.Common.{◌≡◌, ◌+◌, ◌≤◌, length, drop}
+use Rattle.std.proofs.Common.{◌≡◌, ◌+◌, drop}
 use Rattle.epic_text.specs.Counts.{total}
 use Rattle.epic_app.specs.RunReport.{count_all}
 use Rattle.epic_app.proofs.run_report.count_each.Given as goal

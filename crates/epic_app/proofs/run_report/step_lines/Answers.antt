@@ -1,4 +1,4 @@
-use Rattle.std.proofs.Common.{◌≡◌, ℕ, List, ap, ◌∙◌}
+use Rattle.std.proofs.Common.{ℕ, List, ap, ◌∙◌}
 use Rattle.epic_ledger.specs.Facts.{issues_in}
 use Rattle.epic_text.specs.Report.{answer_text, issued_name}
 use Rattle.epic_text.proofs.AnswerLemmas.{answer_shown}

@@ -1,12 +1,11 @@
-use Rattle.std.proofs.Common.{rules, ◌≡◌, ℕ, ◌+◌, ◌<◌, ◌≤◌, List, [], ◌++◌, length, take, get_or, ap, refl, sym, subst, ◌∙◌, arith}
-use Rattle.epic_num.specs.declared.command.Command.{Command}
+use Rattle.std.proofs.Common.{rules, ℕ, ◌+◌, ◌<◌, ◌≤◌, List, ◌++◌, length, take, get_or, ap, sym, subst, ◌∙◌, arith}
 use Rattle.epic_ports.specs.Written.{Appends, AppendsFront}
 use Rattle.epic_ports.proofs.Appended.{Appends-none, Appends-trans, AppendsFront-after, AppendsFront-more, on_err}
-use Rattle.epic_text.specs.Counts.{counts_of, end_line, total}
+use Rattle.epic_text.specs.Counts.{counts_of, end_line}
 use Rattle.epic_world.specs.Next.{next}
-use Rattle.epic_world.specs.Run.{run, run_from, state_after, done_by}
+use Rattle.epic_world.specs.Run.{run_from, state_after, done_by}
 use Rattle.epic_world.specs.State.{start}
-use Rattle.epic_app.specs.RunReport.{run_text, steps_text, step_text, all_verdicts, verdicts_in, count_all}
+use Rattle.epic_app.specs.RunReport.{steps_text, step_text, all_verdicts, verdicts_in, count_all}
 use Rattle.epic_app.proofs.RunLemmas.{next_state, next_text, next_verdicts, next_steps, run_front, run_whole, run_alarms, count_all-counts}
 use Rattle.epic_app.proofs.run_report.write_run.Goals as goal
 
@@ -27,17 +26,18 @@ loop-command-preserved g c =
     let front = steps_text t (run_from t start (take i cs)) in
     let line = step_text t (done_by t (state_after t start (take i cs)) (get_or cs i d)) in
     let now = subst (λ (text : List ℕ). Appends (g.O.Sink.written c.loop-command.out) (g.O.Sink.written c.write_step.new.out) text)
-        (λ k. step_text (network k) (done_by (network k) (state k) (is k))) c.in_ok-counts.ensures.ok in
-    (c.in_ok-counts.ensures.network ∙ network,
-    c.in_ok-counts.ensures.state ∙ ((λ k. (next (network k) (state k) (is k)).state) ∙ sym (next_state t cs i d within)),
-    subst (λ (text : List ℕ). Appends (g.O.Sink.written c.args.out.now) (g.O.Sink.written c.write_step.new.out) text) (sym (next_text t cs i d within))
-    (Appends-trans _ _ _ front line written now),
-    c.in_ok-counts.ensures.counts
-    ∙ ((λ k. count_all (counts k) (verdicts_in (next (network k) (state k) (is k)).answer))
-    ∙ (count_all-counts 0 (all_verdicts (run_from t start (take i cs))) (verdicts_in (next t (state_after t start (take i cs)) (get_or cs i d)).answer) ∙ ap (counts_of 0) (sym (next_verdicts t cs i d within)))),
-    ap (λ (s : _). s.steps) c.in_ok-counts.ensures.state ∙ (next_steps c.loop-command.world.network c.loop-command.world.state d ∙ ap (λ n. n + 1) steps),
-    omega (arith, c.in_ok-counts.ensures.total, few),
-    omega (arith, faults, c.write_step.ensures.later))
+    (λ k. step_text (network k) (done_by (network k) (state k) (is k))) c.in_ok-counts.ensures.ok in (
+      c.in_ok-counts.ensures.network ∙ network,
+      c.in_ok-counts.ensures.state ∙ ((λ k. (next (network k) (state k) (is k)).state) ∙ sym (next_state t cs i d within)),
+      subst (λ (text : List ℕ). Appends (g.O.Sink.written c.args.out.now) (g.O.Sink.written c.write_step.new.out) text) (sym (next_text t cs i d within))
+          (Appends-trans _ _ _ front line written now),
+      c.in_ok-counts.ensures.counts
+          ∙ ((λ k. count_all (counts k) (verdicts_in (next (network k) (state k) (is k)).answer))
+          ∙ (count_all-counts 0 (all_verdicts (run_from t start (take i cs))) (verdicts_in (next t (state_after t start (take i cs)) (get_or cs i d)).answer) ∙ ap (counts_of 0) (sym (next_verdicts t cs i d within)))),
+      ap (λ (s : _). s.steps) c.in_ok-counts.ensures.state ∙ (next_steps c.loop-command.world.network c.loop-command.world.state d ∙ ap (λ n. n + 1) steps),
+      omega (arith, c.in_ok-counts.ensures.total, few),
+      omega (arith, faults, c.write_step.ensures.later),
+    )
 
 pub returns-in_err-counts-clause-err : goal.returns-in_err-counts-clause-err
 returns-in_err-counts-clause-err g c =
@@ -52,7 +52,7 @@ returns-in_err-counts-clause-err g c =
     let line = step_text t (done_by t (state_after t start (take i cs)) (get_or cs i d)) in
     let (more, whole) = run_front t cs i d within in
     let now = subst (λ (text : List ℕ). AppendsFront (g.O.Sink.written c.loop-command.out) (g.O.Sink.written c.write_step.new.out) text)
-        (λ k. step_text (network k) (done_by (network k) (state k) (is k))) c.in_err-counts.ensures.err in
+    (λ k. step_text (network k) (done_by (network k) (state k) (is k))) c.in_err-counts.ensures.err in
     on_err _ _ (subst (λ (text : List ℕ). AppendsFront (g.O.Sink.written c.args.out.now) (g.O.Sink.written c.write_step.new.out) text) (sym whole)
     (AppendsFront-after _ _ _ front (line ++ more) written (AppendsFront-more _ _ line more now)))
 
