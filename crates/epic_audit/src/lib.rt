@@ -12,6 +12,8 @@ mod linking;
 mod naming;
 mod reveals;
 mod sources;
+#[cfg(test)]
+mod tests;
 mod twins;
 mod uncovered;
 mod updates;
