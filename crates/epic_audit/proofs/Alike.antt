@@ -15,7 +15,7 @@ use Rattle.epic_audit.specs.Kept.{AreApart}
 use Rattle.epic_audit.specs.Verdicts.{is_twin, twin_issue, twin_sent}
 use Rattle.epic_audit.proofs.Finds.{found, missing, found_only}
 use Rattle.epic_audit.proofs.Queries.{at_place, named_there}
-use Rattle.epic_audit.proofs.Tests.{is_twin-Decides, is_sent_like-Decides}
+use Rattle.epic_audit.proofs.Decided.{is_twin-Decides, is_sent_like-Decides}
 
 -- another hop that is a twin of x collides with it
 pub one_sigma : (t : Network) (x y : HopName) → is_twin t x y ≡ true → x ≢ y → HaveOneSigma t x y

@@ -22,7 +22,7 @@ use Rattle.epic_audit.specs.declared.uncovered.Uncovered.{Uncovered}
 use Rattle.epic_audit.specs.Verdicts.{no_name, sent_hop, is_uncovered, uncovered_in, uncovered, is_twin_pass, twin_pass}
 use Rattle.epic_audit.proofs.Finds.{found, missing, found_only, any_there, none_there}
 use Rattle.epic_audit.proofs.Walked.{range_at}
-use Rattle.epic_audit.proofs.Tests.{SentAs, is_sent_as-Decides, is_pass_of-Decides, TwinPassed, is_twin_pass-Decides}
+use Rattle.epic_audit.proofs.Decided.{SentAs, is_sent_as-Decides, is_pass_of-Decides, TwinPassed, is_twin_pass-Decides}
 
 -- ---- reveals
 

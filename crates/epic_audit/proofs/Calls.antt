@@ -35,7 +35,7 @@ use Rattle.epic_audit.specs.Searches.{first_sent, name_sent, if_alike, is_alike,
 use Rattle.epic_audit.specs.Verdicts.{no_name, is_uncovered, uncovered_in, uncovered, has_update, twin_pass, opened_or_forged, dest_lines, hop_verdict, dest_verdict, IsProved}
 use Rattle.epic_audit.specs.declared.uncovered.Uncovered.{Uncovered}
 use Rattle.epic_audit.proofs.Arrivals.{sent_there}
-use Rattle.epic_audit.proofs.Tests.{is_send_of-Decides}
+use Rattle.epic_audit.proofs.Decided.{is_send_of-Decides}
 use Rattle.epic_audit.proofs.Before.{name_read}
 use Rattle.epic_audit.proofs.Dest.{dest_verdicts}
 use Rattle.epic_audit.proofs.Finds.{found, found_only}

@@ -30,7 +30,7 @@ use Rattle.epic_audit.specs.Laws.{IsAccepted}
 use Rattle.epic_audit.specs.Verdicts.{no_name, is_child, parent_name, broken, broken_between, broken_chain}
 use Rattle.epic_audit.proofs.Finds.{found, any_there, none_there}
 use Rattle.epic_audit.proofs.Queries.{at_place, name_there, named_there, issued, unissued}
-use Rattle.epic_audit.proofs.Tests.{is_child-Decides}
+use Rattle.epic_audit.proofs.Decided.{is_child-Decides}
 
 -- ---- neighbours
 

@@ -39,7 +39,7 @@ use Rattle.epic_audit.specs.Reveals.{IsRevealed, NoneRevealed, least_step}
 use Rattle.epic_audit.specs.declared.uncovered.Uncovered.{Uncovered}
 use Rattle.epic_audit.specs.Verdicts.{uncovered, has_update, twin_pass, opened_or_forged, dest_lines, dest_verdict, IsProved}
 use Rattle.epic_audit.proofs.Arrivals.{SentThere, sent_there, sent_found, IsUncovered, uncovered_hop, all_covered, not_ok_uncovered, not_ok_unsent, twin_there, no_twin_there}
-use Rattle.epic_audit.proofs.Fields.{same_message}
+use Rattle.epic_audit.proofs.FieldTags.{same_message}
 use Rattle.epic_audit.proofs.Queries.{least_there, least_missing}
 use Rattle.epic_audit.proofs.UpdateLaws.{tagged_at_3, sent_are_updates, sent_update_at, own_are_updates, own_update_at, same_update}
 

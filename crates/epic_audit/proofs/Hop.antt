@@ -27,9 +27,9 @@ use Rattle.epic_audit.specs.Made.{hop_message, IsMadeField}
 use Rattle.epic_audit.specs.Reveals.{reveal_step, least_step}
 use Rattle.epic_audit.specs.Verdicts.{twin_issue, broken_chain, source_of, twin_sent, hop_lines, hop_verdict, IsProved}
 use Rattle.epic_audit.proofs.Chained.{chained, not_chained, collided_in_chain}
-use Rattle.epic_audit.proofs.Fields.{right_field, tagged_field, same_message}
+use Rattle.epic_audit.proofs.FieldTags.{right_field, tagged_field, same_message}
 use Rattle.epic_audit.proofs.Queries.{issued, unissued, revealed, unrevealed, least_there, least_missing, sourced, unsourced}
-use Rattle.epic_audit.proofs.Tests.{is_sent_like-Decides, is_twin-Decides}
+use Rattle.epic_audit.proofs.Decided.{is_sent_like-Decides, is_twin-Decides}
 use Rattle.epic_audit.proofs.Alike.{one_sigma, twin_issued, no_twin_issued, twin_was_sent, no_twin_sent}
 
 module _ (t : Network) (f : Facts) (x : HopName) (p : Contents) (j : ℕ) (packets : ArePackets f) (kept : Kept t f) (packet : IsPacket p)

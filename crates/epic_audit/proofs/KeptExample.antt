@@ -1,18 +1,17 @@
 -- A ledger of which all is kept: two issues, a level 3 packet over them, both its hops accepted, and a reveal.
-use Rattle.std.proofs.Common.{◌≡◌, ◌≢◌, ℕ, zero, suc, ◌+◌, ◌<◌, Bool, true, false, List, [], ◌∷◌, length, Option, Some, None, refl, ap, sym, ◌∙◌, subst, arith, inl, inr}
-use Rattle.std.specs.Prelude.{slice_get, bytes_eq}
-use Rattle.std.specs.List.{All}
+use Rattle.std.proofs.Common.{◌≡◌, ℕ, zero, suc, ◌<◌, true, List, [], ◌∷◌, Some, refl, sym, ◌∙◌, subst, arith, inl, inr}
+use Rattle.std.specs.Prelude.{slice_get}
 use Rattle.std.proofs.lemmas.List.Elements.{All-cons, All-nil}
 use Rattle.std.proofs.lemmas.Option.{same_Some}
 use Rattle.std.proofs.lemmas.Slice.Eq.{bytes_eq-Decides}
 use Rattle.epic_num.specs.declared.key_name.Holder.TheVariants.{As}
 use Rattle.epic_num.specs.declared.hop.HopName.{HopName}
 use Rattle.epic_num.specs.Chains.{Issue, issue_at, name_of, is_ended}
-use Rattle.epic_num.specs.Levels.{is_tagged, level_of, level_number}
+use Rattle.epic_num.specs.Levels.{level_of}
 use Rattle.epic_num.proofs.ChainLaws.{issue_at-zero, issue_at-suc}
-use Rattle.epic_layout.specs.Contents.{Contents, field, hop_count}
+use Rattle.epic_layout.specs.Contents.{Contents, field}
 use Rattle.epic_layout.specs.Route.{place, place_from, position, is_first, is_last, successor, ingress, egress, hop, body}
-use Rattle.epic_layout.specs.Spelling.{dest_message, update_count}
+use Rattle.epic_layout.specs.Spelling.{dest_message}
 use Rattle.epic_topo.specs.declared.link_kind.LinkKind.TheVariants.{Parent}
 use Rattle.epic_topo.specs.Network.{has, neighbour}
 use Rattle.epic_keys.specs.Issues.{IsKept, IssuesKept}
@@ -20,10 +19,10 @@ use Rattle.epic_keys.specs.Tags.{link}
 use Rattle.epic_fields.specs.Formulas.{dest_tag}
 use Rattle.epic_fields.specs.HopChecks.{has_link}
 use Rattle.epic_fields.specs.PacketTags.{field_name, dest_name, hop_tag, field_by, field_of, update_of, dest_field_of}
-use Rattle.epic_ledger.specs.Facts.{Facts, Sent, Pass, Reveal, pass_name, ancestor, sent_issue, sent_name}
-use Rattle.epic_audit.specs.Kept.{IsKeptPass, PassesKept, IsKeptHop, IsKeptSend, AreApart, SendsKept, RevealsKept, Kept}
+use Rattle.epic_ledger.specs.Facts.{Facts, Sent, pass_name, ancestor, sent_issue, sent_name}
+use Rattle.epic_audit.specs.Kept.{IsKeptPass, PassesKept, IsKeptHop, IsKeptSend, AreApart, RevealsKept, Kept}
 use Rattle.epic_audit.specs.Made.{sent_update, sent_updates}
-use Rattle.epic_audit.proofs.VerdictExamples.{parent, child, topology, first, next, packet, issue, send, pass, ledger, reveal}
+use Rattle.epic_audit.proofs.VerdictExamples.{child, topology, first, next, packet, issue, send, pass, ledger, reveal}
 
 -- the link tag that the next hop carries
 abbrev tag : List ℕ

@@ -3,11 +3,11 @@ pub mod Walked
 mod Narrowed
 pub mod Passed
 mod Before
-mod Tests
+mod Decided
 mod Queries
 mod Chained
 mod Alike
-mod Fields
+mod FieldTags
 mod Hop
 mod UpdateLaws
 mod Arrivals

@@ -29,7 +29,7 @@ use Rattle.epic_audit.specs.Reveals.{reveal_step, least_step}
 use Rattle.epic_audit.specs.Verdicts.{is_named, is_twin, twin_issue, broken_chain, source_of, twin_sent, hop_lines, hop_verdict}
 use Rattle.epic_audit.proofs.Finds.{found, missing, found_only}
 use Rattle.epic_audit.proofs.Lists.{answered}
-use Rattle.epic_audit.proofs.Tests.{is_send_of-Decides}
+use Rattle.epic_audit.proofs.Decided.{is_send_of-Decides}
 
 module _ (p : Contents) (sends : List Sent) (apart : AreApart sends) (q : Sent → Bool) (implies : (s : Sent) → q s ≡ true → is_send_of p.src p.ts s ≡ true) where
   -- the first packet with a test that only p's source and timestamp meet

@@ -17,7 +17,7 @@ use Rattle.epic_audit.specs.Clauses.{IsIssued, IsSourced, is_sent_like}
 use Rattle.epic_audit.specs.Reveals.{IsRevealed, IsRevealedAt, NoneRevealed, reveal_step, lesser, least_step}
 use Rattle.epic_audit.specs.Verdicts.{is_named, source_of}
 use Rattle.epic_audit.proofs.Finds.{found, missing, found_at, missing_at}
-use Rattle.epic_audit.proofs.Tests.{is_named-Decides}
+use Rattle.epic_audit.proofs.Decided.{is_named-Decides}
 
 -- ---- issues
 

@@ -1,10 +1,7 @@
 -- Small ledgers, one for each line of the two tables, and one of which all is kept. The keys' tags stay shut: two hops
 -- with one authenticator are told here by generations that are the same modulo 2 ^ 32.
-use Rattle.std.proofs.Common.{◌≡◌, ◌≢◌, ℕ, zero, suc, ◌+◌, ◌^◌, ◌<◌, Bool, true, false, List, [], ◌∷◌, length, replicate, Option, Some, None, refl, ap, sym, ◌∙◌, subst, arith, inl, inr, rules}
-use Rattle.std.specs.Prelude.{bytes_eq, slice_get}
-use Rattle.std.specs.Int.{to_be_bytes}
+use Rattle.std.proofs.Common.{◌≡◌, ℕ, ◌^◌, true, false, List, [], ◌∷◌, replicate, refl}
 use Rattle.std.proofs.lemmas.Slice.Eq.{bytes_eq-Decides}
-use Rattle.epic_num.specs.declared.hop.Body.{Body}
 use Rattle.epic_num.specs.declared.hop.HopName.{HopName}
 use Rattle.epic_num.specs.declared.key_name.Holder.{Holder}
 use Rattle.epic_num.specs.declared.key_name.Holder.TheVariants.{As, Host}
@@ -16,31 +13,26 @@ use Rattle.epic_num.specs.declared.verdict.Part.TheVariants.{Link, Sigma}
 use Rattle.epic_num.specs.declared.verdict.Verdict.TheVariants.{Proved, Unclaimed, Opened, Forged, Collided}
 use Rattle.epic_num.specs.BigEndian.{u16_bytes, u32_bytes}
 use Rattle.epic_num.specs.Chains.{Issue, issue_at, name_of}
-use Rattle.epic_num.specs.Holders.{holders, is_among}
-use Rattle.epic_num.specs.Levels.{is_tagged, level_of, level_number, width_of}
+use Rattle.epic_num.specs.Holders.{holders}
+use Rattle.epic_num.specs.Levels.{is_tagged, level_of, level_number}
 use Rattle.epic_num.specs.Messages.{forwarding_message}
 use Rattle.epic_num.specs.Moments.{epoch_of}
 use Rattle.epic_num.specs.Same.{same_as, same_host, same_body, same_name, same_holder}
-use Rattle.epic_layout.specs.declared.head.HopHead.{HopHead}
-use Rattle.epic_layout.specs.declared.head.SegmentHead.{SegmentHead}
-use Rattle.epic_layout.specs.Contents.{Contents, field, hop_count}
-use Rattle.epic_layout.specs.Route.{Route, hops_of, place, place_from, position, is_first, is_last, successor, ingress, egress, hop, body}
+use Rattle.epic_layout.specs.Contents.{Contents, field}
+use Rattle.epic_layout.specs.Route.{Route, place, place_from, position, is_first, hop, body}
 use Rattle.epic_layout.specs.Spelling.{segment_bytes, hop_bytes, path_bytes}
-use Rattle.epic_topo.specs.declared.link_kind.LinkKind.TheVariants.{Parent, Child}
-use Rattle.epic_topo.specs.Network.{Network, has, neighbour}
-use Rattle.epic_keys.specs.Issues.{IssuesKept, IsKept}
+use Rattle.epic_topo.specs.declared.link_kind.LinkKind.TheVariants.{Parent}
+use Rattle.epic_topo.specs.Network.{Network}
 use Rattle.epic_keys.specs.Keys.{key, forwarding_key}
-use Rattle.epic_keys.specs.Tags.{sigma, link, hop_key}
-use Rattle.epic_fields.specs.HopChecks.{hop_name, has_link}
-use Rattle.epic_fields.specs.PacketTags.{field_name, dest_name, hop_tag, field_of, update_of}
+use Rattle.epic_keys.specs.Tags.{sigma, hop_key}
+use Rattle.epic_fields.specs.PacketTags.{field_name, dest_name, hop_tag, update_of}
 use Rattle.epic_ledger.specs.Facts.{Facts, Sent, Pass, Reveal, pass_name, ancestor, sent_issue, sent_name}
 use Rattle.epic_ledger.specs.Queries.{issue_of, is_send_of, is_pass_of, same_path, is_on_path, chain_pass, reveal_of}
 use Rattle.epic_audit.specs.Clauses.{is_level, higher, lower, is_sent_like, is_sent_as, sent_as}
-use Rattle.epic_audit.specs.Kept.{Kept}
-use Rattle.epic_audit.specs.Reveals.{is_revealed, reveal_step, least_step}
+use Rattle.epic_audit.specs.Reveals.{is_revealed, reveal_step}
 use Rattle.epic_audit.specs.declared.uncovered.Uncovered.{Uncovered}
-use Rattle.epic_audit.proofs.Tests.{is_twin-Decides}
-use Rattle.epic_audit.specs.Verdicts.{is_named, is_twin, twin_issue, is_child, parent_name, broken_between, broken_chain, source_of, twin_sent, hop_verdict, is_uncovered, uncovered_in, uncovered, has_update, is_twin_pass, twin_pass, dest_verdict}
+use Rattle.epic_audit.proofs.Decided.{is_twin-Decides}
+use Rattle.epic_audit.specs.Verdicts.{is_twin, twin_issue, is_child, parent_name, broken_between, broken_chain, source_of, twin_sent, hop_verdict, is_uncovered, uncovered_in, uncovered, has_update, is_twin_pass, twin_pass, dest_verdict}
 
 -- ---- a parent and its child, and a path between them
 

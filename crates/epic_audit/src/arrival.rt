@@ -27,7 +27,7 @@ use epic_topo::Topology;
 use epic_view::PacketRef;
 
 /// The verdict of a packet without provenance, whose fields don't say more.
-fn unsent(ledger: &Ledger, topo: &Topology, packet: &PacketRef<'_>) -> Verdict
+pub(crate) fn unsent(ledger: &Ledger, topo: &Topology, packet: &PacketRef<'_>) -> Verdict
     ensures { let key = dest_name topo.now packet.now in result ≡ verdicts.opened_or_forged key (reveals.least_step (facts_of ledger.now.history).reveals (holders key)) }
 {
     let key = dest_name(topo, packet);

@@ -7,6 +7,8 @@ mod chain;
 mod dest_message;
 mod events;
 mod forgery_parts;
+#[cfg(test)]
+mod forgery_tests;
 mod forgery_text;
 mod issues;
 mod laws;

@@ -112,7 +112,13 @@ fn unsourced(
 
 /// The verdict of the hop `x`, line by line.
 #[tactic(auto, unfolding(crate::specs::Searches::hop_found))]
-fn lines(ledger: &Ledger, topo: &Topology, x: &HopName, packet: &PacketRef<'_>, hop: u8) -> Verdict
+pub(crate) fn lines(
+    ledger: &Ledger,
+    topo: &Topology,
+    x: &HopName,
+    packet: &PacketRef<'_>,
+    hop: u8,
+) -> Verdict
     requires lawful { IsLawful ledger.now.history }
     requires known { IsTrue (has topo.now x.now.asn) }
     requires within { hop < hop_count packet.now }

@@ -3,7 +3,7 @@ use Rattle.std.specs.Prelude.{bytes_eq}
 use Rattle.epic_layout.specs.Contents.{field}
 use Rattle.epic_num.specs.Levels.{width_of}
 use Rattle.epic_audit.specs.Verdicts.{has_update}
-use Rattle.epic_audit.proofs.Fields.{field_width, field_read, update_read}
+use Rattle.epic_audit.proofs.FieldTags.{field_width, field_read, update_read}
 use Rattle.epic_audit.proofs.updates.has_update.Goals as goal
 
 pub counted_bytes-requires : goal.counted_bytes-requires
