@@ -88,7 +88,7 @@ pub fn print_pass(
     print_line(to, step, words.as_bytes())
 }
 
-/// Appends a line for each handled hop, the first of which has the index `hop`.
+/// Appends a line for each handled hop, the first of which is the packet's current hop.
 fn print_hops(
     to: &mut Vec<u8>,
     step: u32,

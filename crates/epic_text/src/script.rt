@@ -126,3 +126,6 @@ pub fn read_script<C: FromWords>(alloc: Global, text: &[u8]) -> Result<Vec<C>, S
     }
     Ok(commands)
 }
+
+#[cfg(test)]
+mod tests;
