@@ -1,12 +1,10 @@
 //! What holds of all ledgers and runs.
 ghost use Rattle.epic_audit.specs.Events.{EmissionsAddNothing, EmissionsAreLawful, EventsKeep};
-ghost use Rattle.epic_layout.specs.Contents.{IsBytes};
 ghost use Rattle.epic_ledger.specs.Lawful.{IsLawful};
-ghost use Rattle.epic_world.specs.Sound.{CarriesBytes, RunsAreSound, StartIsSound, StepsAreSound, VerdictsAreRight};
+ghost use Rattle.epic_world.specs.Sound.{RunsAreSound, StartIsSound, StepsAreSound, VerdictsAreRight};
 
 use epic_audit::{hop_verdicts, ledgers};
 use epic_ledger::Ledger;
-use epic_num::Command;
 use epic_router::accepted_packets_are_right;
 use epic_topo::links_lead_back;
 
@@ -33,22 +31,4 @@ pub(crate) fn keeps(ledger: &Ledger)
 {
     ledgers();
     let _events = ledger.events();
-}
-
-/// What a slice of bytes holds are bytes.
-fn are_bytes(_bytes: &[u8])
-    ensures { IsBytes _bytes.now }
-{}
-
-/// What a command carries are bytes.
-#[tactic(auto, unfolding(crate::specs::Sound::CarriesBytes))]
-pub fn carries_bytes(command: &Command)
-    ensures { CarriesBytes command.now }
-{
-    match command {
-        Command::Send { payload, .. } => are_bytes(payload.as_slice()),
-        Command::Turn { bytes, .. } => are_bytes(bytes.as_slice()),
-        Command::Arrive { bytes, .. } => are_bytes(bytes.as_slice()),
-        _ => {}
-    }
 }

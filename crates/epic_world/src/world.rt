@@ -3,7 +3,8 @@ ghost use Rattle.epic_ledger.specs.Facts.{facts_of};
 ghost use Rattle.epic_ledger.specs.Lawful.{IsLawful};
 ghost use Rattle.epic_audit.specs.Kept.{Kept};
 
-use crate::laws::{carries_bytes, keeps, runs_are_sound};
+use crate::commands::carries_bytes;
+use crate::laws::{keeps, runs_are_sound};
 use epic_audit::ledgers;
 use epic_beacon::Beacons;
 use epic_keys::KeyStore;
