@@ -17,12 +17,12 @@ mod linking;
 mod naming;
 mod reveals;
 mod sources;
+#[cfg(test)]
+mod tests;
 mod twins;
 mod uncovered;
 mod updates;
 mod verdict;
-#[cfg(test)]
-mod tests;
 
 pub use arrival::verdict_dest;
 pub use chain::whole_chains;
