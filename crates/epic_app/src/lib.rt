@@ -16,4 +16,6 @@ mod words;
 pub use top::epic;
 
 #[cfg(test)]
+mod run_tests;
+#[cfg(test)]
 mod tests;
