@@ -1,4 +1,4 @@
-//! The program's commands: one AS of level 0 issues hops and checks their fields.
+//! The program's commands: the run of many actors over a topology, and one AS that issues hops and checks their fields.
 #![tactic(auto)]
 
 mod end;

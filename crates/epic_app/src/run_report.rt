@@ -158,6 +158,7 @@ fn write_step<O: Sink>(
     ensures later { O.faults out.old ≤ O.faults out.new }
     ensures cause { WriteFailsBy (O.faults out.old) (O.faults out.new) result }
 {
+    // Before the step and after it the ledger is kept, so that the answer can be told.
     let _ = world.ledger();
     let answer = match world.step(alloc, command) {
         Ok(answer) => answer,

@@ -40,9 +40,9 @@ fn perform<'a, S: Store, O: Sink>(
 /// Does what the words after the program's name ask for, over a store of files, an output and a sink
 /// for errors, and answers the status of the process.
 ///
-/// 0: the run was done, and no check was forged; 1: some check was. 2: the words are no command.
-/// 4: the file is refused. 6: a read failed. 7: a write failed. 8: memory was wanting. The errors get
-/// the line of the status.
+/// 0: the run was done, and no verdict is forged or collided, or no check of `hop` forged; 1: some is. 2: the words are
+/// no command. 3: the topology is refused. 4: the script, or the file of `hop`, is refused. 6: a read failed. 7: a write
+/// failed. 8: memory was wanting. The errors get the line of the status.
 pub fn epic<S: Store, O: Sink, E: Sink>(
     alloc: Global,
     words: &[String],
@@ -50,8 +50,10 @@ pub fn epic<S: Store, O: Sink, E: Sink>(
     out: &mut O,
     err: &mut E,
 ) -> u8
-    // Each `accept proved K` names an earlier issue of that body, each `accept forged` is a right
-    // field of a body that no earlier line issued, and each refused field is wrong.
+    // The report of `run` is that of the script's commands over the topology, and each verdict in it is true
+    // over the ledger before its step, and Proved exactly where the hop's provenance stands there. In the
+    // report of `hop` each `accept proved K` names an earlier issue of that body, each `accept forged` is a
+    // right field of a body that no earlier line issued, and each refused field is wrong.
     ensures report_holds { ReportHolds (map string_bytes words.now)
         (world (S.contents store.old) (S.reads store.old) (S.writes store.old)
         (O.written out.old) (O.faults out.old))
