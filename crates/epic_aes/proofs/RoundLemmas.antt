@@ -3,14 +3,14 @@ use Rattle.std.proofs.Common.{◌≡◌, ℕ, suc, ◌+◌, ◌<◌, List, [], g
 use Rattle.std.proofs.lemmas.List.FromFn.{get_or-map-range_with_len}
 use Rattle.epic_aes.specs.Cipher.{add_round_key, round, last_round, next_key, round_constant, round_key, after_rounds, aes}
 use Rattle.epic_aes.specs.Keys.{lanes_at, first_key, HasRoundKeys}
-use Rattle.epic_aes.specs.Lanes.{key_of, turn_of}
+use Rattle.epic_aes.specs.Lanes.{key_of, rounds_of_key}
 use Rattle.epic_aes.specs.declared.cipher.RoundKey.{RoundKey}
 
 -- vector i + 1 holds round key i + 1
 pub key_at : (keys : List RoundKey) (i : ℕ) → HasRoundKeys keys → i < 10 →
-    key_of (turn_of (1 + i)) (lanes_at keys (1 + i)) ≡ round_key (first_key keys) (1 + i)
+    key_of (rounds_of_key (1 + i)) (lanes_at keys (1 + i)) ≡ round_key (first_key keys) (1 + i)
 key_at keys i held below =
-    sym (get_or-map-range_with_len (λ r. key_of (turn_of r) (lanes_at keys r)) 1 10 i (1 + i) [] below refl)
+    sym (get_or-map-range_with_len (λ r. key_of (rounds_of_key r) (lanes_at keys r)) 1 10 i (1 + i) [] below refl)
     ∙ ap (λ list. get_or list i []) held
     ∙ get_or-map-range_with_len (round_key (first_key keys)) 1 10 i (1 + i) [] below refl
 

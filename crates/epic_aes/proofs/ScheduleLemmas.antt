@@ -7,7 +7,7 @@ use lib.Bits.{xor_assoc, xor_zero_r}
 use mir.Val.{Fits}
 use Rattle.epic_aes.specs.Cipher.{next_key}
 use Rattle.epic_aes.specs.Lanes.{entry, nibble_sum, byte_of, state_of, key_of}
-use Rattle.epic_aes.specs.declared.tables.TheConstants.{LAST_WORD, ONE_COLUMN_ON, TWO_COLUMNS_ON, TURNED}
+use Rattle.epic_aes.specs.declared.tables.TheConstants.{LAST_WORD, ONE_COLUMN_ON, TWO_COLUMNS_ON, ARRANGED}
 use Rattle.epic_aes.proofs.ByteLemmas.{one_of, sbox_of, byte_of-one, byte_of-xor, one_below}
 use Rattle.epic_aes.proofs.LaneLemmas.{lane_below, lanes_of, lanes_are}
 use Rattle.epic_aes.proofs.XorLemmas.{xor_medial}
@@ -141,39 +141,69 @@ module _ (key e : List ℕ) (key_fits : Each1 (Fits w8) key) (e_fits : Each1 (Fi
       ∙ xor_zero_r (byte_of (get_or key n 0))
 
   abbrev IsKept : ℕ → Type 0
-  IsKept turn = key_of turn (zip2 bit_xor (map (entry (lanes_of key)) (slice_index_or TURNED turn [])) (lanes_of e)) ≡ state_of 0 key
+  IsKept n = key_of n (zip2 bit_xor (map (entry (lanes_of key)) (slice_index_or ARRANGED n [])) (lanes_of e)) ≡ state_of 0 key
 
   module _ (same : state_of 0 e ≡ 0x63 ∷ 0x63 ∷ 0x63 ∷ 0x63 ∷ 0x63 ∷ 0x63 ∷ 0x63 ∷ 0x63 ∷ 0x63 ∷ 0x63 ∷ 0x63 ∷ 0x63 ∷ 0x63 ∷ 0x63 ∷ 0x63 ∷ 0x63 ∷ []) where
     at : (n : ℕ) → get_or (state_of 0 e) n 0 ≡ get_or (0x63 ∷ 0x63 ∷ 0x63 ∷ 0x63 ∷ 0x63 ∷ 0x63 ∷ 0x63 ∷ 0x63 ∷ 0x63 ∷ 0x63 ∷ 0x63 ∷ 0x63 ∷ 0x63 ∷ 0x63 ∷ 0x63 ∷ 0x63 ∷ []) n 0
     at n = ap (λ bytes. get_or bytes n 0) same
 
-    turned_0 : IsKept 0
+    arranged_0 : IsKept 0
     unfolding entry
-    turned_0 = λ i. kept 0 0 (at 0) i ∷ kept 1 1 (at 1) i ∷ kept 2 2 (at 2) i ∷ kept 3 3 (at 3) i ∷ kept 4 4 (at 4) i ∷ kept 5 5 (at 5) i ∷ kept 6 6 (at 6) i ∷ kept 7 7 (at 7) i ∷ kept 8 8 (at 8) i ∷ kept 9 9 (at 9) i ∷ kept 10 10 (at 10) i ∷ kept 11 11 (at 11) i ∷ kept 12 12 (at 12) i ∷ kept 13 13 (at 13) i ∷ kept 14 14 (at 14) i ∷ kept 15 15 (at 15) i ∷ []
+    arranged_0 = λ i. kept 0 0 (at 0) i ∷ kept 1 1 (at 1) i ∷ kept 2 2 (at 2) i ∷ kept 3 3 (at 3) i ∷ kept 4 4 (at 4) i ∷ kept 5 5 (at 5) i ∷ kept 6 6 (at 6) i ∷ kept 7 7 (at 7) i ∷ kept 8 8 (at 8) i ∷ kept 9 9 (at 9) i ∷ kept 10 10 (at 10) i ∷ kept 11 11 (at 11) i ∷ kept 12 12 (at 12) i ∷ kept 13 13 (at 13) i ∷ kept 14 14 (at 14) i ∷ kept 15 15 (at 15) i ∷ []
 
-    turned_1 : IsKept 1
+    arranged_1 : IsKept 1
     unfolding entry
-    turned_1 = λ i. kept 0 0 (at 0) i ∷ kept 1 13 (at 13) i ∷ kept 2 10 (at 10) i ∷ kept 3 7 (at 7) i ∷ kept 4 4 (at 4) i ∷ kept 5 1 (at 1) i ∷ kept 6 14 (at 14) i ∷ kept 7 11 (at 11) i ∷ kept 8 8 (at 8) i ∷ kept 9 5 (at 5) i ∷ kept 10 2 (at 2) i ∷ kept 11 15 (at 15) i ∷ kept 12 12 (at 12) i ∷ kept 13 9 (at 9) i ∷ kept 14 6 (at 6) i ∷ kept 15 3 (at 3) i ∷ []
+    arranged_1 = λ i. kept 0 5 (at 5) i ∷ kept 1 10 (at 10) i ∷ kept 2 15 (at 15) i ∷ kept 3 0 (at 0) i ∷ kept 4 9 (at 9) i ∷ kept 5 14 (at 14) i ∷ kept 6 3 (at 3) i ∷ kept 7 4 (at 4) i ∷ kept 8 13 (at 13) i ∷ kept 9 2 (at 2) i ∷ kept 10 7 (at 7) i ∷ kept 11 8 (at 8) i ∷ kept 12 1 (at 1) i ∷ kept 13 6 (at 6) i ∷ kept 14 11 (at 11) i ∷ kept 15 12 (at 12) i ∷ []
 
-    turned_2 : IsKept 2
+    arranged_2 : IsKept 2
     unfolding entry
-    turned_2 = λ i. kept 0 0 (at 0) i ∷ kept 1 9 (at 9) i ∷ kept 2 2 (at 2) i ∷ kept 3 11 (at 11) i ∷ kept 4 4 (at 4) i ∷ kept 5 13 (at 13) i ∷ kept 6 6 (at 6) i ∷ kept 7 15 (at 15) i ∷ kept 8 8 (at 8) i ∷ kept 9 1 (at 1) i ∷ kept 10 10 (at 10) i ∷ kept 11 3 (at 3) i ∷ kept 12 12 (at 12) i ∷ kept 13 5 (at 5) i ∷ kept 14 14 (at 14) i ∷ kept 15 7 (at 7) i ∷ []
+    arranged_2 = λ i. kept 0 14 (at 14) i ∷ kept 1 7 (at 7) i ∷ kept 2 12 (at 12) i ∷ kept 3 5 (at 5) i ∷ kept 4 2 (at 2) i ∷ kept 5 11 (at 11) i ∷ kept 6 0 (at 0) i ∷ kept 7 9 (at 9) i ∷ kept 8 6 (at 6) i ∷ kept 9 15 (at 15) i ∷ kept 10 4 (at 4) i ∷ kept 11 13 (at 13) i ∷ kept 12 10 (at 10) i ∷ kept 13 3 (at 3) i ∷ kept 14 8 (at 8) i ∷ kept 15 1 (at 1) i ∷ []
 
-    turned_3 : IsKept 3
+    arranged_3 : IsKept 3
     unfolding entry
-    turned_3 = λ i. kept 0 0 (at 0) i ∷ kept 1 5 (at 5) i ∷ kept 2 10 (at 10) i ∷ kept 3 15 (at 15) i ∷ kept 4 4 (at 4) i ∷ kept 5 9 (at 9) i ∷ kept 6 14 (at 14) i ∷ kept 7 3 (at 3) i ∷ kept 8 8 (at 8) i ∷ kept 9 13 (at 13) i ∷ kept 10 2 (at 2) i ∷ kept 11 7 (at 7) i ∷ kept 12 12 (at 12) i ∷ kept 13 1 (at 1) i ∷ kept 14 6 (at 6) i ∷ kept 15 11 (at 11) i ∷ []
+    arranged_3 = λ i. kept 0 11 (at 11) i ∷ kept 1 4 (at 4) i ∷ kept 2 1 (at 1) i ∷ kept 3 14 (at 14) i ∷ kept 4 15 (at 15) i ∷ kept 5 8 (at 8) i ∷ kept 6 5 (at 5) i ∷ kept 7 2 (at 2) i ∷ kept 8 3 (at 3) i ∷ kept 9 12 (at 12) i ∷ kept 10 9 (at 9) i ∷ kept 11 6 (at 6) i ∷ kept 12 7 (at 7) i ∷ kept 13 0 (at 0) i ∷ kept 14 13 (at 13) i ∷ kept 15 10 (at 10) i ∷ []
 
-pub round_key_lanes : (turn : ℕ) → turn < 4 → (key e y : List ℕ) → length key ≡ 16 → Each1 (Fits w8) key → length e ≡ 16 → Each1 (Fits w8) e →
+    arranged_4 : IsKept 4
+    unfolding entry
+    arranged_4 = λ i. kept 0 8 (at 8) i ∷ kept 1 9 (at 9) i ∷ kept 2 10 (at 10) i ∷ kept 3 11 (at 11) i ∷ kept 4 12 (at 12) i ∷ kept 5 13 (at 13) i ∷ kept 6 14 (at 14) i ∷ kept 7 15 (at 15) i ∷ kept 8 0 (at 0) i ∷ kept 9 1 (at 1) i ∷ kept 10 2 (at 2) i ∷ kept 11 3 (at 3) i ∷ kept 12 4 (at 4) i ∷ kept 13 5 (at 5) i ∷ kept 14 6 (at 6) i ∷ kept 15 7 (at 7) i ∷ []
+
+    arranged_5 : IsKept 5
+    unfolding entry
+    arranged_5 = λ i. kept 0 13 (at 13) i ∷ kept 1 2 (at 2) i ∷ kept 2 7 (at 7) i ∷ kept 3 8 (at 8) i ∷ kept 4 1 (at 1) i ∷ kept 5 6 (at 6) i ∷ kept 6 11 (at 11) i ∷ kept 7 12 (at 12) i ∷ kept 8 5 (at 5) i ∷ kept 9 10 (at 10) i ∷ kept 10 15 (at 15) i ∷ kept 11 0 (at 0) i ∷ kept 12 9 (at 9) i ∷ kept 13 14 (at 14) i ∷ kept 14 3 (at 3) i ∷ kept 15 4 (at 4) i ∷ []
+
+    arranged_6 : IsKept 6
+    unfolding entry
+    arranged_6 = λ i. kept 0 6 (at 6) i ∷ kept 1 15 (at 15) i ∷ kept 2 4 (at 4) i ∷ kept 3 13 (at 13) i ∷ kept 4 10 (at 10) i ∷ kept 5 3 (at 3) i ∷ kept 6 8 (at 8) i ∷ kept 7 1 (at 1) i ∷ kept 8 14 (at 14) i ∷ kept 9 7 (at 7) i ∷ kept 10 12 (at 12) i ∷ kept 11 5 (at 5) i ∷ kept 12 2 (at 2) i ∷ kept 13 11 (at 11) i ∷ kept 14 0 (at 0) i ∷ kept 15 9 (at 9) i ∷ []
+
+    arranged_7 : IsKept 7
+    unfolding entry
+    arranged_7 = λ i. kept 0 3 (at 3) i ∷ kept 1 12 (at 12) i ∷ kept 2 9 (at 9) i ∷ kept 3 6 (at 6) i ∷ kept 4 7 (at 7) i ∷ kept 5 0 (at 0) i ∷ kept 6 13 (at 13) i ∷ kept 7 10 (at 10) i ∷ kept 8 11 (at 11) i ∷ kept 9 4 (at 4) i ∷ kept 10 1 (at 1) i ∷ kept 11 14 (at 14) i ∷ kept 12 15 (at 15) i ∷ kept 13 8 (at 8) i ∷ kept 14 5 (at 5) i ∷ kept 15 2 (at 2) i ∷ []
+
+    arranged_8 : IsKept 8
+    unfolding entry
+    arranged_8 = λ i. kept 0 0 (at 0) i ∷ kept 1 1 (at 1) i ∷ kept 2 2 (at 2) i ∷ kept 3 3 (at 3) i ∷ kept 4 4 (at 4) i ∷ kept 5 5 (at 5) i ∷ kept 6 6 (at 6) i ∷ kept 7 7 (at 7) i ∷ kept 8 8 (at 8) i ∷ kept 9 9 (at 9) i ∷ kept 10 10 (at 10) i ∷ kept 11 11 (at 11) i ∷ kept 12 12 (at 12) i ∷ kept 13 13 (at 13) i ∷ kept 14 14 (at 14) i ∷ kept 15 15 (at 15) i ∷ []
+
+    arranged_9 : IsKept 9
+    unfolding entry
+    arranged_9 = λ i. kept 0 5 (at 5) i ∷ kept 1 10 (at 10) i ∷ kept 2 15 (at 15) i ∷ kept 3 0 (at 0) i ∷ kept 4 9 (at 9) i ∷ kept 5 14 (at 14) i ∷ kept 6 3 (at 3) i ∷ kept 7 4 (at 4) i ∷ kept 8 13 (at 13) i ∷ kept 9 2 (at 2) i ∷ kept 10 7 (at 7) i ∷ kept 11 8 (at 8) i ∷ kept 12 1 (at 1) i ∷ kept 13 6 (at 6) i ∷ kept 14 11 (at 11) i ∷ kept 15 12 (at 12) i ∷ []
+
+pub round_key_lanes : (n : ℕ) → n < 10 → (key e y : List ℕ) → length key ≡ 16 → Each1 (Fits w8) key → length e ≡ 16 → Each1 (Fits w8) e →
     state_of 0 e ≡ 0x63 ∷ 0x63 ∷ 0x63 ∷ 0x63 ∷ 0x63 ∷ 0x63 ∷ 0x63 ∷ 0x63 ∷ 0x63 ∷ 0x63 ∷ 0x63 ∷ 0x63 ∷ 0x63 ∷ 0x63 ∷ 0x63 ∷ 0x63 ∷ [] →
-    y ≡ map (entry key) (slice_index_or TURNED turn []) →
-    key_of turn (zip2 bit_xor y e) ≡ state_of 0 key
-round_key_lanes turn below key e y key_long key_fits e_long e_fits same is =
-    (λ i. key_of turn (zip2 bit_xor ((is ∙ ap (λ k. map (entry k) (slice_index_or TURNED turn [])) (lanes_are key key_long)) i) (lanes_are e e_long i)))
-    ∙ each turn below
+    y ≡ map (entry key) (slice_index_or ARRANGED n []) →
+    key_of n (zip2 bit_xor y e) ≡ state_of 0 key
+round_key_lanes n below key e y key_long key_fits e_long e_fits same is =
+    (λ i. key_of n (zip2 bit_xor ((is ∙ ap (λ k. map (entry k) (slice_index_or ARRANGED n [])) (lanes_are key key_long)) i) (lanes_are e e_long i)))
+    ∙ each n below
   where
-    each : (turn : ℕ) → turn < 4 → IsKept key e key_fits e_fits turn
-    each zero below = turned_0 key e key_fits e_fits same
-    each (suc zero) below = turned_1 key e key_fits e_fits same
-    each (suc (suc zero)) below = turned_2 key e key_fits e_fits same
-    each (suc (suc (suc zero))) below = turned_3 key e key_fits e_fits same
-    each (suc (suc (suc (suc n)))) below = absurd (omega arith)
+    each : (n : ℕ) → n < 10 → IsKept key e key_fits e_fits n
+    each zero below = arranged_0 key e key_fits e_fits same
+    each (suc zero) below = arranged_1 key e key_fits e_fits same
+    each (suc (suc zero)) below = arranged_2 key e key_fits e_fits same
+    each (suc (suc (suc zero))) below = arranged_3 key e key_fits e_fits same
+    each (suc (suc (suc (suc zero)))) below = arranged_4 key e key_fits e_fits same
+    each (suc (suc (suc (suc (suc zero))))) below = arranged_5 key e key_fits e_fits same
+    each (suc (suc (suc (suc (suc (suc zero)))))) below = arranged_6 key e key_fits e_fits same
+    each (suc (suc (suc (suc (suc (suc (suc zero))))))) below = arranged_7 key e key_fits e_fits same
+    each (suc (suc (suc (suc (suc (suc (suc (suc zero)))))))) below = arranged_8 key e key_fits e_fits same
+    each (suc (suc (suc (suc (suc (suc (suc (suc (suc zero))))))))) below = arranged_9 key e key_fits e_fits same
+    each (suc (suc (suc (suc (suc (suc (suc (suc (suc (suc n)))))))))) below = absurd (omega arith)

@@ -2,7 +2,7 @@
 use Rattle.std.specs.Prelude.{◌≡◌, ℕ, List, [], map, slice_index_or}
 use Rattle.std.specs.List.{range_with_len}
 use Rattle.epic_aes.specs.Cipher.{round_key}
-use Rattle.epic_aes.specs.Lanes.{state_of, key_of, turn_of}
+use Rattle.epic_aes.specs.Lanes.{state_of, key_of, rounds_of_key}
 use Rattle.epic_aes.specs.declared.cipher.RoundKey.{RoundKey}
 
 -- the lanes of round key r
@@ -16,4 +16,4 @@ first_key keys = state_of 0 (lanes_at keys 0)
 -- the vectors after the first hold the round keys 1 to 10
 abbrev pub HasRoundKeys : List RoundKey → Type 0
 HasRoundKeys keys =
-    map (λ r. key_of (turn_of r) (lanes_at keys r)) (range_with_len 1 10) ≡ map (round_key (first_key keys)) (range_with_len 1 10)
+    map (λ r. key_of (rounds_of_key r) (lanes_at keys r)) (range_with_len 1 10) ≡ map (round_key (first_key keys)) (range_with_len 1 10)

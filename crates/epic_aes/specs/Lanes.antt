@@ -1,6 +1,6 @@
 -- How the code keeps a state: a vector of 16 bytes, each in a basis of the field in which an inverse is a few look-ups
 -- by nibbles. Each function on a byte here is what a step of the code does to one lane.
-use Rattle.std.specs.Prelude.{ℕ, ◌+◌, ◌*◌, ◌-◌, ◌/◌, ◌%◌, Bool, ◌||◌, nat_lt, nat_le, List, slice_index, bit_xor, if◌then◌else◌, map, ◌≡◌, true}
+use Rattle.std.specs.Prelude.{ℕ, zero, suc, ◌+◌, ◌*◌, ◌/◌, ◌%◌, Bool, ◌||◌, nat_lt, nat_le, List, slice_index, bit_xor, if◌then◌else◌, map, ◌≡◌, true}
 use Rattle.std.specs.List.{list_all}
 use Rattle.std.specs.Int.{w8}
 use Rattle.std.specs.Simd.Lanes.{Each1, zip2}
@@ -48,24 +48,28 @@ second_half b =
 unfoldable pub half_sum : List ℕ → List ℕ → ℕ → ℕ
 half_sum first second b = bit_xor (entry first (first_half b)) (entry second (second_half b))
 
--- where the byte in row r and column c lies, when row r has been turned left by `turn` times r
+-- Where the byte in row r and column c lies after n rounds. A round puts a byte where the one below it was, which ShiftRows
+-- took there without moving it.
 abbrev pub position : ℕ → ℕ → ℕ → ℕ
-position turn r c = r + 4 * ((c + (4 - turn) * r) % 4)
+position zero r c = r + 4 * c
+position (suc n) r c = position n ((r + 1) % 4) ((c + r + 1) % 4)
 
--- the state that lanes stand for
+-- the state that lanes stand for after n rounds
 abbrev pub state_of : ℕ → List ℕ → List ℕ
-state_of turn lanes = state (λ r c. byte_of (slice_index lanes (position turn r c)))
+state_of n lanes = state (λ r c. byte_of (slice_index lanes (position n r c)))
 
--- the round key that lanes stand for: they hold the constant of the S-box besides, which the look-ups leave out
+-- the round key that lanes stand for where it is added then: they hold the constant of the S-box besides, which the look-ups
+-- leave out
 abbrev pub key_of : ℕ → List ℕ → List ℕ
-key_of turn lanes = state (λ r c. bit_xor (byte_of (slice_index lanes (position turn r c))) 0x63)
+key_of n lanes = state (λ r c. bit_xor (byte_of (slice_index lanes (position n r c))) 0x63)
 
--- MixColumns and AddRoundKey on lanes: those of the S-box, of its double, of the round key and of the neighbours in a column
+-- MixColumns and AddRoundKey on lanes: those of the S-box, of its double, of the round key, and of the neighbours in a column, two
+-- rows below and one above
 abbrev pub mixed_lanes : List ℕ → List ℕ → List ℕ → List ℕ → List ℕ → List ℕ
-mixed_lanes one two key below above =
-    let sum = zip2 bit_xor two (map (entry one) below) in
-    zip2 bit_xor (zip2 bit_xor sum (zip2 bit_xor (map (entry one) above) key)) (map (entry sum) below)
+mixed_lanes one two key opposite above =
+    let sum = zip2 bit_xor two (map (entry one) opposite) in
+    zip2 bit_xor (zip2 bit_xor (zip2 bit_xor one key) sum) (map (entry sum) above)
 
--- how far the rows of round key r lie turned
-abbrev pub turn_of : ℕ → ℕ
-turn_of r = (12 - r) % 4
+-- after how many rounds a state lies as round key r does; the last round leaves it in the standard's order
+abbrev pub rounds_of_key : ℕ → ℕ
+rounds_of_key r = r % 10

@@ -1,8 +1,8 @@
 //! A key that is ready for use, and the encryption of a block under it.
 
-ghost use Rattle.std.specs.Prelude.{◌≡◌};
+ghost use Rattle.std.specs.Prelude.{◌≡◌, ℕ, ◌<◌, List, [], length, slice_index_or};
 ghost use Rattle.epic_aes.specs.Chain.{chain};
-ghost use Rattle.epic_aes.specs.Cipher.{aes};
+ghost use Rattle.epic_aes.specs.Cipher.{add_round_key, aes, after_rounds};
 ghost use Rattle.epic_aes.specs.Keys.{first_key, HasRoundKeys};
 ghost use Rattle.epic_aes.specs.Lanes.{state_of};
 
@@ -11,7 +11,7 @@ use crate::schedule::{next_key, round_key};
 use std::marker::Model;
 use std::simd::prelude::*;
 
-// What a round adds, with the rows turned as they lie there.
+// What a round adds, as it lies there.
 #[derive(Drop)]
 struct RoundKey {
     lanes: u8x16,
@@ -34,23 +34,41 @@ impl Model for Aes {
     ghost invariant = { λ a. HasRoundKeys a.keys };
 }
 
-// The rounds are written out, so that their tables are constants.
+// The rounds of a block to which the first key was added, in two parts: a function of all ten is too large to be inlined twice.
+// They are written out, so that their tables are constants.
 #[inline(always)]
-fn encipher(keys: &[RoundKey; 11], x: u8x16) -> u8x16
+fn early_rounds(keys: &[RoundKey; 11], x: u8x16) -> u8x16
     requires { HasRoundKeys keys.now }
-    ensures { state_of 0 result ≡ aes (first_key keys.now) (state_of 0 x) }
+    ensures { (block : List ℕ) → state_of 0 x ≡ add_round_key block (first_key keys.now) → state_of 5 result ≡ after_rounds (first_key keys.now) block 5 }
 {
-    let x = sum(x, keys[0].lanes);
-    let x = round(x, keys[1].lanes, 3);
-    let x = round(x, keys[2].lanes, 2);
-    let x = round(x, keys[3].lanes, 1);
-    let x = round(x, keys[4].lanes, 0);
-    let x = round(x, keys[5].lanes, 3);
-    let x = round(x, keys[6].lanes, 2);
-    let x = round(x, keys[7].lanes, 1);
-    let x = round(x, keys[8].lanes, 0);
-    let x = round(x, keys[9].lanes, 3);
+    let x = round(x, keys[1].lanes, 0);
+    let x = round(x, keys[2].lanes, 1);
+    let x = round(x, keys[3].lanes, 2);
+    let x = round(x, keys[4].lanes, 3);
+    round(x, keys[5].lanes, 4)
+}
+
+#[inline(always)]
+fn later_rounds(keys: &[RoundKey; 11], x: u8x16) -> u8x16
+    requires { HasRoundKeys keys.now }
+    ensures { (block : List ℕ) → state_of 5 x ≡ after_rounds (first_key keys.now) block 5 → state_of 0 result ≡ aes (first_key keys.now) block }
+{
+    let x = round(x, keys[6].lanes, 5);
+    let x = round(x, keys[7].lanes, 6);
+    let x = round(x, keys[8].lanes, 7);
+    let x = round(x, keys[9].lanes, 8);
     last_round(x, keys[10].lanes)
+}
+
+// The sum of the first key and a block, where there is that block.
+#[inline(always)]
+fn first_sum(key: u8x16, blocks: &[[u8; 16]], i: usize) -> u8x16
+    ensures { i < length blocks.now → state_of 0 result ≡ add_round_key (state_of 0 key) (slice_index_or blocks.now i []) }
+{
+    match blocks.get(i) {
+        Some(block) => sum(key, enter(u8x16::from_array(*block))),
+        None => key,
+    }
 }
 
 impl Aes {
@@ -73,34 +91,34 @@ impl Aes {
             keys: [
                 RoundKey { lanes: key0 },
                 RoundKey {
-                    lanes: round_key(key1, 3),
+                    lanes: round_key(key1, 1),
                 },
                 RoundKey {
                     lanes: round_key(key2, 2),
                 },
                 RoundKey {
-                    lanes: round_key(key3, 1),
+                    lanes: round_key(key3, 3),
                 },
                 RoundKey {
-                    lanes: round_key(key4, 0),
+                    lanes: round_key(key4, 4),
                 },
                 RoundKey {
-                    lanes: round_key(key5, 3),
+                    lanes: round_key(key5, 5),
                 },
                 RoundKey {
-                    lanes: round_key(key6, 2),
+                    lanes: round_key(key6, 6),
                 },
                 RoundKey {
-                    lanes: round_key(key7, 1),
+                    lanes: round_key(key7, 7),
                 },
                 RoundKey {
-                    lanes: round_key(key8, 0),
+                    lanes: round_key(key8, 8),
                 },
                 RoundKey {
-                    lanes: round_key(key9, 3),
+                    lanes: round_key(key9, 9),
                 },
                 RoundKey {
-                    lanes: round_key(key10, 2),
+                    lanes: round_key(key10, 0),
                 },
             ],
         }
@@ -110,7 +128,9 @@ impl Aes {
     pub fn encrypt(&self, block: &mut [u8; 16])
         ensures { block.new ≡ aes self.now block.old }
     {
-        let x = encipher(&self.keys, enter(u8x16::from_array(*block)));
+        let x = sum(self.keys[0].lanes, enter(u8x16::from_array(*block)));
+        let x = early_rounds(&self.keys, x);
+        let x = later_rounds(&self.keys, x);
         *block = leave(x).to_array();
     }
 
@@ -118,10 +138,17 @@ impl Aes {
     pub fn chain(&self, x: &mut [u8; 16], blocks: &[[u8; 16]])
         ensures { x.new ≡ chain self.now x.old blocks.now }
     {
+        let key = self.keys[0].lanes;
         let mut state = enter(u8x16::from_array(*x));
-        for block in blocks {
-            let next = encipher(&self.keys, sum(state, enter(u8x16::from_array(*block))));
-            state = next;
+        // What a block adds is ready before the state is.
+        let mut ahead = first_sum(key, blocks, 0);
+        for i in 0..blocks.len() {
+            let sum = sum(state, ahead);
+            let next = first_sum(key, blocks, i + 1);
+            ahead = next;
+            let half = early_rounds(&self.keys, sum);
+            let done = later_rounds(&self.keys, half);
+            state = done;
         }
         *x = leave(state).to_array();
     }

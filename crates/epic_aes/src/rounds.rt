@@ -1,5 +1,5 @@
-//! The cipher's steps on vectors. ShiftRows moves nothing from round to round: row r lies turned left by `turn` times r, and the
-//! tables of neighbours follow.
+//! The cipher's steps on vectors. Where a byte lies changes from round to round: ShiftRows moves nothing, and MixColumns puts a
+//! byte where the one below it was. The tables of neighbours follow.
 
 ghost use Rattle.std.specs.Prelude.{◌≡◌, ◌+◌, ◌%◌, ◌<◌, [], slice_index_or};
 ghost use Rattle.epic_aes.specs.Cipher.{add_round_key, round, last_round};
@@ -7,7 +7,7 @@ ghost use Rattle.epic_aes.specs.Lanes.{AreBytes, mixed_lanes, state_of, key_of};
 
 use crate::lanes::{half_sum, halves, look_up, nibble_sum};
 use crate::tables::{
-    ABOVE, BELOW, ENTER_HIGH, ENTER_LOW, LAST, LEAVE_HIGH, LEAVE_LOW, ONE_FIRST, ONE_SECOND,
+    ABOVE, ENTER_HIGH, ENTER_LOW, LAST, LEAVE_HIGH, LEAVE_LOW, ONE_FIRST, ONE_SECOND, OPPOSITE,
     TWO_FIRST, TWO_SECOND,
 };
 use std::simd::prelude::*;
@@ -36,34 +36,32 @@ pub(crate) fn sum(x: u8x16, y: u8x16) -> u8x16
     x ^ y
 }
 
-// MixColumns and AddRoundKey, where rows lie turned by `turn`.
+// MixColumns and AddRoundKey in the round after n rounds, from the S-box of each byte and its double.
 #[inline(always)]
-fn mix(one: u8x16, two: u8x16, key: u8x16, turn: usize) -> u8x16
-    requires { turn < 4 }
-    ensures { result ≡ mixed_lanes one two key (slice_index_or BELOW turn []) (slice_index_or ABOVE turn []) }
+fn mix(one: u8x16, two: u8x16, key: u8x16, n: usize) -> u8x16
+    ensures { result ≡ mixed_lanes one two key (slice_index_or OPPOSITE (n % 2) []) (slice_index_or ABOVE (n % 4) []) }
 {
-    let below = u8x16::from_array(BELOW[turn]);
-    let sum = two ^ look_up(one, below);
-    sum ^ (look_up(one, u8x16::from_array(ABOVE[turn])) ^ key) ^ look_up(sum, below)
+    let sum = two ^ look_up(one, u8x16::from_array(OPPOSITE[n % 2]));
+    one ^ key ^ sum ^ look_up(sum, u8x16::from_array(ABOVE[n % 4]))
 }
 
-/// A round. The rows of `x` lie turned by one more than `turn`, and those of the key and of the result by `turn`.
+/// The round after n rounds, fewer than nine.
 #[inline(always)]
-pub(crate) fn round(x: u8x16, key: u8x16, turn: usize) -> u8x16
-    requires { turn < 4 }
-    ensures { state_of turn result ≡ round (state_of ((turn + 1) % 4) x) (key_of turn key) }
+pub(crate) fn round(x: u8x16, key: u8x16, n: usize) -> u8x16
+    requires { n < 9 }
+    ensures { state_of (n + 1) result ≡ round (state_of n x) (key_of (n + 1) key) }
 {
     let halves = halves(x);
     let one = half_sum(ONE_FIRST, ONE_SECOND, halves);
     let two = half_sum(TWO_FIRST, TWO_SECOND, halves);
-    mix(one, two, key, turn)
+    mix(one, two, key, n)
 }
 
-/// The last round. The rows of `x` lie turned by 3, those of the key by 2, and those of the result not at all.
+/// The last round, after nine. Its bytes lie in the standard's order.
 #[inline(always)]
 pub(crate) fn last_round(x: u8x16, key: u8x16) -> u8x16
-    ensures { state_of 0 result ≡ last_round (state_of 3 x) (key_of 2 key) }
+    ensures { state_of 0 result ≡ last_round (state_of 9 x) (key_of 0 key) }
 {
     let one = half_sum(ONE_FIRST, ONE_SECOND, halves(x));
-    look_up(one ^ key, u8x16::from_array(LAST))
+    look_up(one, u8x16::from_array(LAST)) ^ key
 }

@@ -6,7 +6,7 @@ ghost use Rattle.epic_aes.specs.Lanes.{state_of, key_of};
 
 use crate::lanes::{half_sum, halves, look_up};
 use crate::rounds::enter;
-use crate::tables::{LAST_WORD, ONE_COLUMN_ON, ONE_FIRST, ONE_SECOND, TURNED, TWO_COLUMNS_ON};
+use crate::tables::{ARRANGED, LAST_WORD, ONE_COLUMN_ON, ONE_FIRST, ONE_SECOND, TWO_COLUMNS_ON};
 use std::simd::prelude::*;
 
 /// The round key after `key`.
@@ -27,11 +27,11 @@ pub(crate) fn next_key(key: u8x16, constant: u8) -> u8x16
     four ^ (turned ^ constants)
 }
 
-/// A round key as a round takes it: its rows turned, and with the constant of the S-box.
+/// A round key as it is added after n rounds: its bytes where those of the state lie then, and with the constant of the S-box.
 #[inline(always)]
-pub(crate) fn round_key(key: u8x16, turn: usize) -> u8x16
-    requires { turn < 4 }
-    ensures { key_of turn result ≡ state_of 0 key }
+pub(crate) fn round_key(key: u8x16, n: usize) -> u8x16
+    requires { n < 10 }
+    ensures { key_of n result ≡ state_of 0 key }
 {
-    look_up(key, u8x16::from_array(TURNED[turn])) ^ enter(u8x16::splat(0x63))
+    look_up(key, u8x16::from_array(ARRANGED[n])) ^ enter(u8x16::splat(0x63))
 }
