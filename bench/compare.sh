@@ -1,7 +1,7 @@
 #!/usr/bin/env bash
-# Times the proved cipher and its tags against C and, where it is there, OpenSSL: `bench/compare.sh [RUNS]`. All programs run
-# in turn, each many short times; the least time of each is taken, and ratios are printed (more than 1: the proved one is
-# faster). Nothing else should run on the machine.
+# Times the proved cipher, its tags and turns against C and, where it is there, OpenSSL: `bench/compare.sh [RUNS]`. All programs
+# run in turn, each many short times; the least time of each is taken, and ratios are printed, with "ours" as LLVM builds it
+# (more than 1: ours is faster) and "the other build" by Rattle's own compiler. Nothing else should run on the machine.
 set -u
 root=$(cd "$(dirname "${BASH_SOURCE[0]}")/.." && pwd) || exit 2
 crate=$root/crates/epic_bench
@@ -24,7 +24,12 @@ build() { # NAME, and rt's words: proves and builds the program
 
 build rattle --backend rattle
 build llvm
-if ${CC:-gcc} -O2 -o "$room/c" "$root/bench/cmac.c"; then names+=(c); fi
+cc=${CC:-gcc}
+if command -v "$cc" >/dev/null; then
+  "$cc" -O2 -o "$room/c" "$root/bench/cmac.c" && names+=(c)
+else
+  echo "$cc: not there, skipped"
+fi
 
 # The C program has no turns.
 for name in "${names[@]}"; do
@@ -61,7 +66,7 @@ fi
 
 grep -m 1 'model name' /proc/cpuinfo
 echo "load: $(cut -d' ' -f1-3 /proc/loadavg)"
-${CC:-gcc} --version | head -1
+command -v "$cc" >/dev/null && "$cc" --version | head -1
 command -v openssl >/dev/null && openssl version
 echo "nanoseconds an operation, the least of $runs runs"
 awk '

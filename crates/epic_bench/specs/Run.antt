@@ -1,11 +1,12 @@
 -- How a run may end, and what was written then.
-use Rattle.std.specs.Prelude.{◌≡◌, ℕ, List, [], Option, Some, None, codes}
+use Rattle.std.specs.Prelude.{◌≡◌, ℕ, ◌⊎◌, List, [], Option, Some, None, codes}
 use Rattle.epic_ports.specs.Faults.{Rose}
 use Rattle.epic_ports.specs.Written.{Appends, AppendsFront}
 use Rattle.epic_bench.specs.declared.top.End.{End}
 use Rattle.epic_bench.specs.declared.top.End.TheVariants.{Done, BadWords, NoClock, NoPacket, WriteFailed, OutOfMemory}
 use Rattle.epic_bench.specs.declared.words.Request.{Request}
 use Rattle.epic_bench.specs.declared.words.Request.TheVariants.{Time, Digests}
+use Rattle.epic_bench.specs.declared.work.Work.{Work}
 use Rattle.epic_bench.specs.declared.work.Work.TheVariants.{Aes, Cmac, Short, Turn}
 use Rattle.epic_bench.specs.Lines.{◌⊕◌, IsLine, IsTimedLine}
 
@@ -43,17 +44,31 @@ MakesNothing NoPacket = Unit {0}
 MakesNothing WriteFailed = ⊥
 MakesNothing OutOfMemory = Unit {0}
 
+-- why a work couldn't be made ready: only turns need a packet
+abbrev pub IsUnready : Work → End → Type 0
+IsUnready work Done = ⊥
+IsUnready work BadWords = ⊥
+IsUnready work NoClock = ⊥
+IsUnready work NoPacket = work ≡ Turn
+IsUnready work WriteFailed = ⊥
+IsUnready work OutOfMemory = Unit {0}
+
 -- the clock is read only where a time is asked for
 abbrev pub ReadsClock : Request → Type 0
 ReadsClock (Time work rounds) = Unit {0}
 ReadsClock (Digests rounds) = ⊥
+
+-- and a packet is made only where turns are
+abbrev pub NeedsPacket : Request → Type 0
+NeedsPacket (Time work rounds) = work ≡ Turn
+NeedsPacket (Digests rounds) = Unit {0}
 
 -- why there is no text
 abbrev pub GivesNothing : Request → End → Type 0
 GivesNothing request Done = ⊥
 GivesNothing request BadWords = ⊥
 GivesNothing request NoClock = ReadsClock request
-GivesNothing request NoPacket = Unit {0}
+GivesNothing request NoPacket = NeedsPacket request
 GivesNothing request WriteFailed = ⊥
 GivesNothing request OutOfMemory = Unit {0}
 
@@ -63,7 +78,7 @@ abbrev pub EndsWith : Request → Output → Output → End → Type 0
 EndsWith request old new Done = (text : List ℕ) × IsTextOf request text × Appends old.written new.written text
 EndsWith request old new BadWords = ⊥
 EndsWith request old new NoClock = ReadsClock request × (new ≡ old)
-EndsWith request old new NoPacket = new ≡ old
+EndsWith request old new NoPacket = NeedsPacket request × (new ≡ old)
 EndsWith request old new WriteFailed =
     Rose old.faults new.faults
     × ((text : List ℕ) × IsTextOf request text × AppendsFront old.written new.written text)
@@ -90,3 +105,9 @@ error_line NoPacket = codes "epic_bench: packet\n"
 error_line NoClock = codes "epic_bench: clock\n"
 error_line WriteFailed = codes "epic_bench: write\n"
 error_line OutOfMemory = codes "epic_bench: memory\n"
+
+-- a line was written to the errors, or a front of it where a write failed
+abbrev pub Tells : Output → Output → List ℕ → Type 0
+Tells old new line =
+    Appends old.written new.written line
+    ⊎ (AppendsFront old.written new.written line × Rose old.faults new.faults)

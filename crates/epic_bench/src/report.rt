@@ -4,7 +4,7 @@ ghost use Rattle.std.specs.Prelude.{◌≡◌, ◌<◌, [], IfOk, IfErr};
 ghost use Rattle.std.specs.String.{string_bytes};
 ghost use Rattle.epic_bench.specs.Lines.{IsLine, IsTimedLine, line, time_text};
 ghost use Rattle.epic_bench.specs.Request.{HasRounds};
-ghost use Rattle.epic_bench.specs.Run.{AreLines, GivesNothing, IsTextOf, MakesNothing};
+ghost use Rattle.epic_bench.specs.Run.{AreLines, GivesNothing, IsTextOf, IsUnready, MakesNothing};
 ghost use Rattle.epic_bench.specs.Tasks.{work_of_task};
 ghost use Rattle.epic_bench.specs.Works.{IsDigest};
 
@@ -48,7 +48,7 @@ fn time_text(alloc: Global, nanos: u64, operations: u64) -> Result<String, Alloc
 /// The line of a work without its time.
 fn digest_line(alloc: Global, work: Work, rounds: u32) -> Result<String, End>
     ensures ok { IfOk result (λ text. IsLine work rounds (string_bytes text)) }
-    ensures err { IfErr result MakesNothing }
+    ensures err { IfErr result (IsUnready work) }
 {
     let mut task = Task::new(alloc, work)?;
     let digest = task.run(rounds);

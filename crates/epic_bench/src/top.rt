@@ -2,9 +2,8 @@
 
 ghost use Rattle.std.specs.Prelude.{◌≡◌, map, IfOk};
 ghost use Rattle.std.specs.String.{string_bytes};
-ghost use Rattle.epic_ports.specs.Written.{AppendsFront};
 ghost use Rattle.epic_bench.specs.Request.{HasRounds, request_of};
-ghost use Rattle.epic_bench.specs.Run.{Ends, EndsWith, error_line, output, status_of};
+ghost use Rattle.epic_bench.specs.Run.{Ends, EndsWith, Tells, error_line, output, status_of};
 
 use crate::report::text;
 use crate::words::{Request, requested};
@@ -86,7 +85,10 @@ fn print<R: Clock + AllocGlobal, O: Sink>(rt: &R, request: Request, out: &mut O)
 
 /// Tells the end to the errors. A failure of theirs changes nothing else.
 fn tell<E: Sink>(err: &mut E, end: End)
-    ensures { AppendsFront (E.written err.old) (E.written err.new) (error_line end) }
+    ensures { Tells
+        (output (E.written err.old) (E.faults err.old))
+        (output (E.written err.new) (E.faults err.new))
+        (error_line end) }
 {
     let _ = write_all(err, end.line());
 }
@@ -103,7 +105,10 @@ pub(crate) fn bench<R: Clock + AllocGlobal, O: Sink, E: Sink>(
         (output (O.written out.old) (O.faults out.old))
         (output (O.written out.new) (O.faults out.new))
         result }
-    ensures told { AppendsFront (E.written err.old) (E.written err.new) (error_line result) }
+    ensures told { Tells
+        (output (E.written err.old) (E.faults err.old))
+        (output (E.written err.new) (E.faults err.new))
+        (error_line result) }
 {
     let end = match requested(words) {
         Some(request) => print(rt, request, out),

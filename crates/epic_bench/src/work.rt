@@ -4,7 +4,7 @@ ghost use Rattle.std.specs.Prelude.{◌≡◌, length, IfOk, IfErr};
 ghost use Rattle.std.specs.Fn.{iterate};
 ghost use Rattle.epic_aes.specs.Chain.{chain};
 ghost use Rattle.epic_cmac.specs.Cmac.{cmac};
-ghost use Rattle.epic_bench.specs.Run.{MakesNothing};
+ghost use Rattle.epic_bench.specs.Run.{IsUnready};
 ghost use Rattle.epic_bench.specs.Tasks.{work_of_task};
 ghost use Rattle.epic_bench.specs.Works.{IsDigest, chained, message, name_of, operations, tagged, unit_of};
 
@@ -141,7 +141,7 @@ impl Task {
     /// Makes a work ready.
     pub(crate) fn new(alloc: Global, work: Work) -> Result<Task, End>
         ensures ok { IfOk result (λ task. work_of_task task ≡ work) }
-        ensures err { IfErr result MakesNothing }
+        ensures err { IfErr result (IsUnready work) }
     {
         match work {
             Work::Aes => Ok(Task::Aes),
