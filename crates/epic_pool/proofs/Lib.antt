@@ -1,0 +1,13 @@
+pub mod Adding
+pub mod Growing
+pub mod Heads
+pub mod Inserting
+pub mod Linking
+pub mod Listed
+pub mod Lists
+pub mod Paths
+pub mod Readers
+pub mod Removing
+pub mod Unlinking
+pub mod Values
+pub mod Writes
