@@ -1,0 +1,5 @@
+pub mod Sides
+pub mod Index
+pub mod Shapes
+pub mod Arena
+pub mod Turned
