@@ -1,0 +1,11 @@
+pub mod Held
+pub mod Numbers
+pub mod PseudoHeader
+pub mod Moments
+pub mod Records
+pub mod Streams
+pub mod Capture
+pub mod Reading
+pub mod Seen
+pub mod Saving
+pub mod Steps
