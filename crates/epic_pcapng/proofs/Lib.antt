@@ -1,0 +1,10 @@
+pub mod Results
+pub mod Blocks
+pub mod Contents
+pub mod Runs
+pub mod Passing
+pub mod Steps
+pub mod Answers
+pub mod Unread
+pub mod OptionRuns
+pub mod Ends
