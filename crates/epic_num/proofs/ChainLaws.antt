@@ -6,7 +6,7 @@ use Rattle.std.proofs.lemmas.Option.{slice_get_past}
 use Rattle.std.proofs.Math.Dec.{eqb-suc-zero}
 use Rattle.epic_num.specs.Chains.{Issue, issue_at, name_of, last_names, chain}
 
-slice_get-append : {A : Type 0} (xs ys : List A) (i : ℕ) → i < length xs → slice_get (xs ++ ys) i ≡ slice_get xs i
+pub slice_get-append : {A : Type 0} (xs ys : List A) (i : ℕ) → i < length xs → slice_get (xs ++ ys) i ≡ slice_get xs i
 slice_get-append [] ys i h = absurd (omega arith)
 slice_get-append (x ∷ xs) ys zero h = refl
 slice_get-append (x ∷ xs) ys (suc i) h = slice_get-append xs ys i (omega arith)
@@ -27,13 +27,13 @@ issue_at-append issues more zero h = issue_at-zero (issues ++ more) ∙ sym (iss
 issue_at-append issues more (suc n) h =
     issue_at-suc (issues ++ more) n ∙ (slice_get-append issues more n (omega arith) ∙ sym (issue_at-suc issues n))
 
+pub slice_get-seam : {A : Type 0} (xs : List A) (x : A) → slice_get (xs ++ x ∷ []) (length xs) ≡ Some x
+slice_get-seam [] x = refl
+slice_get-seam (y ∷ xs) x = slice_get-seam xs x
+
 -- the one that is issued next
 pub issue_at-next : (issues : List Issue) (i : Issue) → issue_at (issues ++ i ∷ []) (length issues + 1) ≡ Some i
-issue_at-next issues i = rw add-one (issue_at-suc (issues ++ i ∷ []) (length issues) ∙ at_seam issues i)
-  where
-    at_seam : (xs : List Issue) (x : Issue) → slice_get (xs ++ x ∷ []) (length xs) ≡ Some x
-    at_seam [] x = refl
-    at_seam (y ∷ xs) x = at_seam xs x
+issue_at-next issues i = rw add-one (issue_at-suc (issues ++ i ∷ []) (length issues) ∙ slice_get-seam issues i)
 
 -- there is no issue past the last
 pub issue_at-past : (issues : List Issue) (n : ℕ) → length issues < n → issue_at issues n ≡ None

@@ -1,4 +1,5 @@
 pub mod ChainLaws
+pub mod ChainNames
 mod Examples
 pub mod Fronts
 pub mod LevelLaws
@@ -13,3 +14,4 @@ pub mod Reading
 pub mod SameLaws
 pub mod Spelled
 pub mod Stopped
+pub mod TableLaws

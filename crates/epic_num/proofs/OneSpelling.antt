@@ -8,7 +8,7 @@ use Rattle.std.proofs.lemmas.List.Folds.{list_all-append}
 use Rattle.std.proofs.lemmas.Nat.{div-add-mod', div-mul-add, mod-mul-add}
 use Rattle.std.proofs.lemmas.Option.{none-some, same_Some}
 use Rattle.epic_num.specs.declared.name.HostId.{HostId}
-use Rattle.epic_num.specs.Names.{as_of, as_part_of, as_part_text, as_text, colon, comma, dash, group_of, groups_of, groups_text, hexadecimal, host_of, host_text, is_digit_of, isd_of, joined, low_groups_of, number_within, numeral_of, parted, small_part_of, within, IsReadable, IsReadableHost}
+use Rattle.epic_num.specs.Names.{as_from, as_of, as_part_of, as_part_text, as_text, colon, comma, dash, group_of, groups_of, groups_text, hexadecimal, host_from, host_text, is_digit_of, isd_of, joined, low_groups_of, number_within, numeral_of, parted, small_part_of, within, IsFrom, IsHostFrom, IsReadable}
 use Rattle.epic_num.specs.Spellings.{HasOneSpelling}
 use Rattle.epic_num.proofs.Fronts.{HasText}
 use Rattle.epic_num.proofs.Numerals.{IsNumeralWithin, numeral_is, reads_numeral, unread}
@@ -140,14 +140,14 @@ has_text : {A : Type 0} (f : List ℕ → Option A) (F : A → Type 0) (s : A �
 has_text f F s a h ok = record { text = s a; value = a; read = (h (s a) a).1 (ok, refl) }
 
 -- the parts of an AS
-pub isd_unmarked : IsUnmarked dash isd_of
-isd_unmarked = numeral_unmarked 10 1 0xffff dash refl
+pub isd_unmarked : (least : ℕ) → IsUnmarked dash (isd_of least)
+isd_unmarked least = numeral_unmarked 10 least 0xffff dash refl
 
-isd_spelling : HasOneSpelling isd_of (λ n. (1 ≤ n) × (n ≤ 0xffff)) decimal
-isd_spelling = numeral_spelling 10 1 0xffff (omega arith) (omega arith) (omega arith)
+isd_spelling : (least : ℕ) → HasOneSpelling (isd_of least) (λ n. (least ≤ n) × (n ≤ 0xffff)) decimal
+isd_spelling least = numeral_spelling 10 least 0xffff (omega arith) (omega arith) (omega arith)
 
-small_part_spelling : HasOneSpelling small_part_of (λ n. (1 ≤ n) × (n ≤ 0xffff_ffff)) decimal
-small_part_spelling = numeral_spelling 10 1 0xffff_ffff (omega arith) (omega arith) (omega arith)
+small_part_spelling : (least : ℕ) → HasOneSpelling (small_part_of least) (λ n. (least ≤ n) × (n ≤ 0xffff_ffff)) decimal
+small_part_spelling least = numeral_spelling 10 least 0xffff_ffff (omega arith) (omega arith) (omega arith)
 
 group_spelling : (least : ℕ) → HasOneSpelling (group_of least) (λ n. (least ≤ n) × (n ≤ 0xffff)) hexadecimal
 group_spelling least = numeral_spelling 16 least 0xffff (omega arith) (omega arith) (omega arith)
@@ -202,12 +202,12 @@ groups_spelling =
         ∙ ap (λ m. hexadecimal (n / 2 ^ 32) ++ (colon ∷ (hexadecimal (n / 2 ^ 16 % 2 ^ 16) ++ (colon ∷ hexadecimal m)))) (last n)
 
 -- no decimal number is three groups
-no_colon : (n : ℕ) → small_part_of (groups_text n) ≡ None
-no_colon n = unread (small_part_of (groups_text n)) clash
+no_colon : (least n : ℕ) → small_part_of least (groups_text n) ≡ None
+no_colon least n = unread (small_part_of least (groups_text n)) clash
   where
-    clash : (m : ℕ) → small_part_of (groups_text n) ≡ Some m → ⊥
+    clash : (m : ℕ) → small_part_of least (groups_text n) ≡ Some m → ⊥
     clash m e =
-        let free = (numeral_unmarked 10 1 0xffff_ffff colon refl).none (groups_text n) m e in
+        let free = (numeral_unmarked 10 least 0xffff_ffff colon refl).none (groups_text n) m e in
         let rest = colon ∷ (hexadecimal (n / 2 ^ 16 % 2 ^ 16) ++ (colon ∷ hexadecimal (n % 2 ^ 16))) in
         let parts = and_parts (list_all (λ c. not (c == colon)) (hexadecimal (n / 2 ^ 32))) (list_all (λ c. not (c == colon)) rest)
         (sym (list_all-append (λ c. not (c == colon)) (hexadecimal (n / 2 ^ 32)) rest) ∙ free) in
@@ -219,59 +219,67 @@ small_text n small = ap (λ b. cond b (decimal n) (groups_text n)) (lt-ltb n (2 
 large_text : (n : ℕ) → 2 ^ 32 ≤ n → as_part_text n ≡ groups_text n
 large_text n large = ap (λ b. cond b (decimal n) (groups_text n)) (le-ltb n (2 ^ 32) large)
 
-as_part_spelling : HasOneSpelling as_part_of (λ n. (0 < n) × (n < 2 ^ 48)) as_part_text
+-- a least number that isolation domains have
+abbrev pub IsLeast : ℕ → Type 0
+IsLeast least = least < 2 ^ 16
+
+as_part_spelling : (least : ℕ) → IsLeast least → HasOneSpelling (as_part_of least) (λ n. (least ≤ n) × (n < 2 ^ 48)) as_part_text
 unfolding as_part_of
-as_part_spelling text n = (there (small_part_of text) refl, λ k. back (nat_lt n (2 ^ 32)) refl k)
+as_part_spelling least low text n = (there (small_part_of least text) refl, λ k. back (nat_lt n (2 ^ 32)) refl k)
   where
-    there : (o : Option ℕ) → small_part_of text ≡ o → option_or (small_part_of text) (groups_of text) ≡ Some n → (0 < n × n < 2 ^ 48) × (text ≡ as_part_text n)
+    there : (o : Option ℕ) → small_part_of least text ≡ o → option_or (small_part_of least text) (groups_of text) ≡ Some n → (least ≤ n × n < 2 ^ 48) × (text ≡ as_part_text n)
     there None none e =
         let k = (groups_spelling text n).0 (sym (ap (λ o. option_or o (groups_of text)) none) ∙ e) in
         ((omega (arith, k.0.0), k.0.1), k.1 ∙ sym (large_text n k.0.0))
     there (Some m) some e =
-        let k = (small_part_spelling text n).0 (some ∙ (sym (ap (λ o. option_or o (groups_of text)) some) ∙ e)) in
+        let k = (small_part_spelling least text n).0 (some ∙ (sym (ap (λ o. option_or o (groups_of text)) some) ∙ e)) in
         ((omega (arith, k.0.0), omega (arith, k.0.1)), k.1 ∙ sym (small_text n (omega (arith, k.0.1))))
 
-    back : (b : Bool) → nat_lt n (2 ^ 32) ≡ b → (0 < n × n < 2 ^ 48) × (text ≡ as_part_text n) → option_or (small_part_of text) (groups_of text) ≡ Some n
+    back : (b : Bool) → nat_lt n (2 ^ 32) ≡ b → (least ≤ n × n < 2 ^ 48) × (text ≡ as_part_text n) → option_or (small_part_of least text) (groups_of text) ≡ Some n
     back true b k =
         let small : n < 2 ^ 32 = ltb-true n (2 ^ 32) b in
-        ap (λ o. option_or o (groups_of text)) ((small_part_spelling text n).1 ((omega (arith, k.0.0), omega (arith, small)), k.1 ∙ small_text n small))
+        ap (λ o. option_or o (groups_of text)) ((small_part_spelling least text n).1 ((omega (arith, k.0.0), omega (arith, small)), k.1 ∙ small_text n small))
     back false b k =
         let large : 2 ^ 32 ≤ n = ltb-false n (2 ^ 32) b in
         let whole : text ≡ groups_text n = k.1 ∙ large_text n large in
-        ap (λ o. option_or o (groups_of text)) (ap small_part_of whole ∙ no_colon n)
+        ap (λ o. option_or o (groups_of text)) (ap (small_part_of least) whole ∙ no_colon least n)
         ∙ (groups_spelling text n).1 ((large, k.0.1), whole)
 
-pub as_part_has_text : HasText as_part_of
-as_part_has_text = has_text as_part_of (λ n. (0 < n) × (n < 2 ^ 48)) as_part_text 1 as_part_spelling (omega arith, omega arith)
+pub as_part_has_text : (least : ℕ) → IsLeast least → HasText (as_part_of least)
+as_part_has_text least low =
+    has_text (as_part_of least) (λ n. (least ≤ n) × (n < 2 ^ 48)) as_part_text least (as_part_spelling least low) (omega arith, omega arith)
 
-as_part_unmarked : (mark : ℕ) → is_digit_of 10 mark ≡ false → is_digit_of 16 mark ≡ false → (colon == mark) ≡ false → IsUnmarked mark as_part_of
+as_part_unmarked : (least mark : ℕ) → is_digit_of 10 mark ≡ false → is_digit_of 16 mark ≡ false → (colon == mark) ≡ false → IsUnmarked mark (as_part_of least)
 unfolding as_part_of groups_of low_groups_of
-as_part_unmarked mark d h c =
-    or_unmarked mark small_part_of groups_of (numeral_unmarked 10 1 0xffff_ffff mark d)
+as_part_unmarked least mark d h c =
+    or_unmarked mark (small_part_of least) groups_of (numeral_unmarked 10 least 0xffff_ffff mark d)
     (map_unmarked mark (λ p. p.0 * 2 ^ 32 + p.1) (parted colon (group_of 1) low_groups_of)
     (parted_unmarked mark colon (group_of 1) low_groups_of c (group_unmarked 1 mark h)
     (map_unmarked mark (λ p. p.0 * 2 ^ 16 + p.1) (parted colon (group_of 0) (group_of 0))
     (parted_unmarked mark colon (group_of 0) (group_of 0) c (group_unmarked 0 mark h) (group_unmarked 0 mark h)))))
 
-pub as_spelling : HasOneSpelling as_of IsReadable as_text
-unfolding as_of as_text
-as_spelling =
-    restated (joined dash (2 ^ 48) isd_of as_part_of)
-    (λ a. ((1 ≤ a / 2 ^ 48) × (a / 2 ^ 48 ≤ 0xffff)) × ((0 < a % 2 ^ 48) × (a % 2 ^ 48 < 2 ^ 48)))
-    IsReadable
+pub as_from_spelling : (least : ℕ) → IsLeast least → HasOneSpelling (as_from least) (IsFrom least) as_text
+unfolding as_from as_text
+as_from_spelling least small =
+    restated (joined dash (2 ^ 48) (isd_of least) (as_part_of least))
+    (λ a. ((least ≤ a / 2 ^ 48) × (a / 2 ^ 48 ≤ 0xffff)) × ((least ≤ a % 2 ^ 48) × (a % 2 ^ 48 < 2 ^ 48)))
+    (IsFrom least)
     (λ a. decimal (a / 2 ^ 48) ++ (dash ∷ as_part_text (a % 2 ^ 48)))
     as_text
-    (λ a h. (omega arith, omega arith, omega arith))
-    (λ a h. ((omega arith, omega arith), (omega arith, omega arith)))
+    (λ a h. (omega arith, h.0.0, h.1.0))
+    (λ a h. ((h.1, omega arith), (h.2, omega arith)))
     (λ a h. refl)
-    (joined_spelling dash (2 ^ 48) isd_of as_part_of (λ n. (1 ≤ n) × (n ≤ 0xffff)) (λ n. (0 < n) × (n < 2 ^ 48)) decimal as_part_text
-    isd_unmarked (λ n h. h.1) isd_spelling as_part_spelling)
+    (joined_spelling dash (2 ^ 48) (isd_of least) (as_part_of least) (λ n. (least ≤ n) × (n ≤ 0xffff)) (λ n. (least ≤ n) × (n < 2 ^ 48)) decimal as_part_text
+    (isd_unmarked least) (λ n h. h.1) (isd_spelling least) (as_part_spelling least small))
 
-pub as_unmarked : IsUnmarked comma as_of
-unfolding as_of
-as_unmarked =
-    map_unmarked comma (λ p. p.0 * 2 ^ 48 + p.1) (parted dash isd_of as_part_of)
-    (parted_unmarked comma dash isd_of as_part_of refl (numeral_unmarked 10 1 0xffff comma refl) (as_part_unmarked comma refl refl refl))
+pub as_spelling : HasOneSpelling as_of IsReadable as_text
+as_spelling = as_from_spelling 1 (omega arith)
+
+pub as_unmarked : (least : ℕ) → IsUnmarked comma (as_from least)
+unfolding as_from
+as_unmarked least =
+    map_unmarked comma (λ p. p.0 * 2 ^ 48 + p.1) (parted dash (isd_of least) (as_part_of least))
+    (parted_unmarked comma dash (isd_of least) (as_part_of least) refl (numeral_unmarked 10 least 0xffff comma refl) (as_part_unmarked least comma refl refl refl))
 
 pub number_spelling : (most : ℕ) → most < 2 ^ 64 → HasOneSpelling (number_within most) (λ n. n ≤ most) decimal
 unfolding number_within
@@ -283,9 +291,9 @@ number_spelling most small =
 pub number_has_text : (most : ℕ) → most < 2 ^ 64 → HasText (number_within most)
 number_has_text most small = has_text (number_within most) (λ n. n ≤ most) decimal 0 (number_spelling most small) (omega arith)
 
-pub host_spelling : HasOneSpelling host_of IsReadableHost host_text
-unfolding host_of host_text
-host_spelling text h = (λ e. there (parted comma as_of (number_within most) text) refl e, back)
+pub host_from_spelling : (least : ℕ) → IsLeast least → HasOneSpelling (host_from least) (IsHostFrom least) host_text
+unfolding host_from host_text
+host_from_spelling least small text h = (λ e. there (parted comma (as_from least) (number_within most) text) refl e, back)
   where
     most : ℕ
     most = 0xffff_ffff
@@ -293,26 +301,26 @@ host_spelling text h = (λ e. there (parted comma as_of (number_within most) tex
     host_at : ℕ × ℕ → HostId
     host_at p = record { asn = record { 0 = p.0 }; host = p.1 }
 
-    there : (o : Option (ℕ × ℕ)) → parted comma as_of (number_within most) text ≡ o → option_map host_at (parted comma as_of (number_within most) text) ≡ Some h → IsReadableHost h × (text ≡ host_text h)
+    there : (o : Option (ℕ × ℕ)) → parted comma (as_from least) (number_within most) text ≡ o → option_map host_at (parted comma (as_from least) (number_within most) text) ≡ Some h → IsHostFrom least h × (text ≡ host_text h)
     there None none e = absurd (none-some h (sym (ap (option_map host_at) none) ∙ e))
     there (Some p) some e =
-        let parts = parted_parts comma as_of (number_within most) text p some in
-        let asn = (as_spelling parts.before p.0).0 parts.first in
+        let parts = parted_parts comma (as_from least) (number_within most) text p some in
+        let asn = (as_from_spelling least small parts.before p.0).0 parts.first in
         let host = (number_spelling most (omega arith) parts.after p.1).0 parts.second in
         let same : host_at p ≡ h = same_Some (host_at p) h (sym (ap (option_map host_at) some) ∙ e) in
-        subst (λ x. IsReadableHost x × (text ≡ host_text x)) same (
+        subst (λ x. IsHostFrom least x × (text ≡ host_text x)) same (
           (asn.0, omega (arith, host.0)),
           parts.whole ∙ ap (λ x. x ++ (comma ∷ parts.after)) asn.1 ∙ ap (λ y. as_text p.0 ++ (comma ∷ y)) host.1,
         )
 
-    back : IsReadableHost h × (text ≡ host_text h) → option_map host_at (parted comma as_of (number_within most) text) ≡ Some h
+    back : IsHostFrom least h × (text ≡ host_text h) → option_map host_at (parted comma (as_from least) (number_within most) text) ≡ Some h
     back k =
         ap (option_map host_at)
-        (has_parts_parted comma as_of (number_within most) text h.asn.0 h.host as_unmarked
+        (has_parts_parted comma (as_from least) (number_within most) text h.asn.0 h.host (as_unmarked least)
         (record {
           before = as_text h.asn.0;
           after = decimal h.host;
           whole = k.1;
-          first = (as_spelling (as_text h.asn.0) h.asn.0).1 (k.0.0, refl);
+          first = (as_from_spelling least small (as_text h.asn.0) h.asn.0).1 (k.0.0, refl);
           second = (number_spelling most (omega arith) (decimal h.host) h.host).1 (omega (arith, k.0.1), refl);
         }))

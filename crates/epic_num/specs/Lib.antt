@@ -10,3 +10,5 @@ pub mod Paths
 pub mod Same
 pub mod Segments
 pub mod Spellings
+pub mod Tables
+pub mod Windows

@@ -1,6 +1,17 @@
 -- Time: when a hop ends, when a packet is fresh, and how long a replay window keeps it. Moments are microseconds.
-use Rattle.std.specs.Prelude.{ℕ, ◌+◌, ◌*◌, ◌/◌, ◌≤◌, Bool, nat_lt, nat_le}
+use Rattle.std.specs.Prelude.{◌≡◌, ℕ, ◌%◌, ◌+◌, ◌*◌, ◌/◌, ◌≤◌, Bool, nat_lt, nat_le}
 use Rattle.epic_num.specs.declared.profile.Profile.{Profile}
+
+-- the settings are in their ranges, and an epoch is of whole seconds
+pub record IsProfile (p : Profile) : Type 0 where
+  pub some_lifetime : 1 ≤ p.lifetime_us
+  pub lifetime : p.lifetime_us ≤ 3600000000
+  pub skew : p.skew_us ≤ 3600000000
+  pub some_epoch : 1000000 ≤ p.epoch_us
+  pub epoch : p.epoch_us ≤ 31536000000000
+  pub seconds : p.epoch_us % 1000000 ≡ 0
+  pub some_window : 1 ≤ p.window
+  pub window : p.window ≤ 65536
 
 -- a hop is valid until (exp + 1) * 337.5 seconds after its segment's timestamp, which is in seconds
 unfoldable pub valid_until : ℕ → ℕ → ℕ

@@ -1,5 +1,5 @@
 -- The texts of numbers, ASes and hosts. Each value has one text, which is printed and which alone is read.
-use Rattle.std.specs.Prelude.{◌≡◌, ℕ, ◌+◌, ◌*◌, ◌/◌, ◌%◌, ◌^◌, ◌<◌, Bool, false, ◌&&◌, ◌||◌, not, List, [], ◌∷◌, ◌++◌, length, take, drop, Option, Some, None, option_map, option_and_then, decimal, nat_lt, nat_le, ◌==◌, if◌then◌else◌, position}
+use Rattle.std.specs.Prelude.{◌≡◌, ℕ, ◌+◌, ◌*◌, ◌/◌, ◌%◌, ◌^◌, ◌<◌, ◌≤◌, Bool, false, ◌&&◌, ◌||◌, not, List, [], ◌∷◌, ◌++◌, length, take, drop, Option, Some, None, option_map, option_and_then, decimal, nat_lt, nat_le, ◌==◌, if◌then◌else◌, position}
 use Rattle.std.specs.Char.{is_digit, is_ascii_uppercase}
 use Rattle.std.specs.Fmt.{digits}
 use Rattle.std.specs.List.{list_all}
@@ -47,17 +47,24 @@ as_part_text n = if nat_lt n (2 ^ 32) then decimal n else groups_text n
 unfoldable pub as_text : ℕ → List ℕ
 as_text a = decimal (isd_part a) ++ (dash ∷ as_part_text (as_part a))
 
--- an AS that a text can name: neither its isolation domain nor its number there is 0
+-- its isolation domain and its number there are this or more
+abbrev pub IsFrom : ℕ → ℕ → Type 0
+IsFrom least a = (a < 2 ^ 64) × (least ≤ isd_part a) × (least ≤ as_part a)
+
+-- an AS that a script or a topology can name: neither its isolation domain nor its number there is 0
 abbrev pub IsReadable : ℕ → Type 0
-IsReadable a = (a < 2 ^ 64) × (0 < isd_part a) × (0 < as_part a)
+IsReadable a = IsFrom 1 a
 
 -- the text of a host
 unfoldable pub host_text : HostId → List ℕ
 host_text h = as_text h.asn.0 ++ (comma ∷ decimal h.host)
 
--- a host that a text can name
+-- a host of such an AS
+abbrev pub IsHostFrom : ℕ → HostId → Type 0
+IsHostFrom least h = IsFrom least h.asn.0 × (h.host < 2 ^ 32)
+
 abbrev pub IsReadableHost : HostId → Type 0
-IsReadableHost h = IsReadable h.asn.0 × (h.host < 2 ^ 32)
+IsReadableHost h = IsHostFrom 1 h
 
 -- a digit of the base, if a letter then in lower case
 abbrev pub is_digit_of : ℕ → ℕ → Bool
@@ -102,13 +109,13 @@ abbrev pub joined : ℕ → ℕ → (List ℕ → Option ℕ) → (List ℕ → 
 joined mark weight before after text =
     option_map (λ p. p.0 * weight + p.1) (parted mark before after text)
 
--- an isolation domain: 1 to 65,535
-abbrev pub isd_of : List ℕ → Option ℕ
-isd_of text = within 1 0xffff (number_of text)
+-- an isolation domain: at most 65,535
+abbrev pub isd_of : ℕ → List ℕ → Option ℕ
+isd_of least text = within least 0xffff (number_of text)
 
 -- an AS number below 2 ^ 32, in decimal digits
-abbrev pub small_part_of : List ℕ → Option ℕ
-small_part_of text = within 1 0xffff_ffff (number_of text)
+abbrev pub small_part_of : ℕ → List ℕ → Option ℕ
+small_part_of least text = within least 0xffff_ffff (number_of text)
 
 -- a group: one to four hexadecimal digits without leading zeros, so at most 65,535
 abbrev pub group_of : ℕ → List ℕ → Option ℕ
@@ -123,15 +130,23 @@ unfoldable pub groups_of : List ℕ → Option ℕ
 groups_of text = joined colon (2 ^ 32) (group_of 1) low_groups_of text
 
 -- an AS number in either form
-unfoldable pub as_part_of : List ℕ → Option ℕ
-as_part_of text = option_or (small_part_of text) (groups_of text)
+unfoldable pub as_part_of : ℕ → List ℕ → Option ℕ
+as_part_of least text = option_or (small_part_of least text) (groups_of text)
 
--- the AS that the text names
-unfoldable pub as_of : List ℕ → Option ℕ
-as_of text = joined dash (2 ^ 48) isd_of as_part_of text
+-- The AS that the text names, where its isolation domain and its number there may be `least` and more: with 0 each number
+-- of 64 bits has a text.
+unfoldable pub as_from : ℕ → List ℕ → Option ℕ
+as_from least text = joined dash (2 ^ 48) (isd_of least) (as_part_of least) text
+
+-- the AS that a text of a script or a topology names
+abbrev pub as_of : List ℕ → Option ℕ
+as_of text = as_from 1 text
 
 -- the host that the text names
-unfoldable pub host_of : List ℕ → Option HostId
-host_of text =
+unfoldable pub host_from : ℕ → List ℕ → Option HostId
+host_from least text =
     option_map (λ p. record { asn = record { 0 = p.0 }; host = p.1 })
-    (parted comma as_of (number_within 0xffff_ffff) text)
+    (parted comma (as_from least) (number_within 0xffff_ffff) text)
+
+abbrev pub host_of : List ℕ → Option HostId
+host_of text = host_from 1 text

@@ -1,3 +1,5 @@
+//! What a step of the program answers.
+
 use crate::{AsId, BeaconError, Passed, PassedList, PathError, PathList, SendError};
 
 /// Why a step wasn't done. It never carries a want of memory.

@@ -1,3 +1,5 @@
+//! What a destination answers to a packet.
+
 use crate::LayoutError;
 
 /// A destination's check that failed.

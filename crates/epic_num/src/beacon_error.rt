@@ -1,3 +1,5 @@
+//! Why no hop is issued.
+
 use crate::AsId;
 
 /// Why a hop wasn't issued.

@@ -1,3 +1,5 @@
+//! A list of bytes that a command carries.
+
 ghost use Rattle.std.specs.Prelude.{◌≡◌, List, ℕ};
 
 use std::marker::Model;

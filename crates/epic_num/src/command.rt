@@ -1,3 +1,5 @@
+//! The commands of a script.
+
 use crate::{AsId, Bytes, Holder, HostId, Level};
 use arrayvec::ArrayVec;
 

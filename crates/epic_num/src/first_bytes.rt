@@ -1,6 +1,6 @@
 //! What a packet's first byte says of its version and level.
 ghost use Rattle.std.specs.Prelude.{◌≡◌};
-ghost use Rattle.epic_num.specs.Levels.{first_byte, is_first_byte, is_tagged, level_of, version_of, width_of};
+ghost use Rattle.epic_num.specs.Levels.{first_byte, is_first_byte, is_tagged, is_timed, is_updated, level_of, version_of, width_of};
 
 use crate::Level;
 
@@ -36,6 +36,22 @@ pub fn is_tagged(first: u8) -> bool
     ensures { result ≡ is_tagged first }
 {
     matches!(first, 0xE2 | 0xE3 | 0xF2 | 0xF3)
+}
+
+/// Whether it is one of level 1, 2 or 3, whose fields are made for one packet and its timestamp.
+#[tactic(auto, unfolding(crate::specs::Levels::is_timed, crate::specs::Levels::level_number))]
+pub fn is_timed(first: u8) -> bool
+    ensures { result ≡ is_timed first }
+{
+    !matches!(level_of(first), Level::L0)
+}
+
+/// Whether it is one of level 3, at which each router puts its update in the place of its field.
+#[tactic(auto, unfolding(crate::specs::Levels::is_updated, crate::specs::Levels::level_number))]
+pub fn is_updated(first: u8) -> bool
+    ensures { result ≡ is_updated first }
+{
+    matches!(level_of(first), Level::L3)
 }
 
 /// The level of a packet with this first byte.

@@ -1,3 +1,5 @@
+//! Hops as their ASes authenticate them, their names and their fields.
+
 use crate::AsId;
 
 /// What a packet's fields say of who made it, and to whom.

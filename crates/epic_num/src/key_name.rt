@@ -1,3 +1,5 @@
+//! The names of keys, and who may hold them.
+
 use crate::{AsId, HostId};
 
 /// The name of a key that is derived from an AS's master key.

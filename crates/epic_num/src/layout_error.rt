@@ -1,3 +1,5 @@
+//! The first fault of bytes that are no packet.
+
 /// The first fault of bytes that are no packet.
 #[derive(Clone, Copy, Debug, PartialEq, Eq)]
 pub enum LayoutError {

@@ -39,7 +39,9 @@ pub use beacon_error::BeaconError;
 pub use bytes::Bytes;
 pub use command::Command;
 pub use equality::{same_as, same_body, same_field, same_holder, same_host, same_key, same_name};
-pub use first_bytes::{first_byte, is_first_byte, is_tagged, level_of, version_of, width_of};
+pub use first_bytes::{
+    first_byte, is_first_byte, is_tagged, is_timed, is_updated, level_of, version_of, width_of,
+};
 pub use hop::{Body, Field, HopName, Level};
 pub use key_name::{Holder, KeyName};
 pub use layout_error::LayoutError;
@@ -49,7 +51,7 @@ pub use message::{
     forwarding_message, host_key_message, link_message, secret_message,
 };
 pub use message_laws::{field_messages, hop_messages, message_kinds};
-pub use moment::{MAX_MOMENT, is_expired, valid_until};
+pub use moment::{MAX_MOMENT, bucket, is_expired, valid_until};
 pub use name::{AsId, HostId};
 pub use passed::{PassResult, Passed, PassedList, Place};
 pub use path::Path;
@@ -57,7 +59,7 @@ pub use path_error::PathError;
 pub use path_ref::{PathList, PathRef};
 pub use print::{print_as, print_host};
 pub use profile::Profile;
-pub use read::{read_as, read_host, read_number};
+pub use read::{read_any_as, read_any_host, read_as, read_host, read_number};
 pub use segment::{Leg, SegHop, SegKind, Segment};
 pub use send_error::{NoKey, SendError};
 pub use spelling::{Spelling, as_has_one_spelling, host_has_one_spelling, number_has_one_spelling};

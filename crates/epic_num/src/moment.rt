@@ -1,5 +1,7 @@
-ghost use Rattle.std.specs.Prelude.{◌≡◌, ◌<◌, ◌^◌};
-ghost use Rattle.epic_num.specs.Moments.{bucket, valid_until, is_expired, is_path_future, is_early, is_stale, is_live, epoch_of};
+//! Moments and durations: when hops end, when packets are fresh, and how replay windows count time.
+
+ghost use Rattle.std.specs.Prelude.{◌≡◌, ◌<◌, ◌≤◌, ◌^◌};
+ghost use Rattle.epic_num.specs.Moments.{bucket, valid_until, is_expired, is_path_future, is_early, is_stale, is_live, live_buckets, epoch_of};
 
 use crate::Profile;
 
@@ -9,9 +11,9 @@ pub const MAX_MOMENT: u64 = 4_294_967_295_999_999;
 /// How long a replay window's bucket is, in microseconds.
 const BUCKET: u64 = 262_144;
 
-/// The bucket of a moment, in microseconds.
+/// The bucket in which replay windows keep what has this timestamp, in microseconds.
 #[tactic(auto, unfolding(crate::specs::Moments::bucket))]
-fn bucket(moment: u64) -> u64
+pub fn bucket(moment: u64) -> u64
     ensures value { result ≡ bucket moment }
     ensures small { result < 2 ^ 46 }
 {
@@ -59,12 +61,21 @@ impl Profile {
         now > ts.saturating_add(self.lifetime_us)
     }
 
+    /// How many buckets past its own an entry of a replay window is live.
+    #[tactic(auto, unfolding(crate::specs::Moments::live_buckets))]
+    pub fn live_buckets(&self) -> u64
+        ensures value { result ≡ live_buckets self.now }
+        ensures small { result ≤ 2 ^ 46 }
+    {
+        bucket(self.lifetime_us) + 1
+    }
+
     /// Whether a replay window still keeps an entry of this timestamp at `now`, both in microseconds.
-    #[tactic(auto, unfolding(crate::specs::Moments::is_live, crate::specs::Moments::live_buckets))]
+    #[tactic(auto, unfolding(crate::specs::Moments::is_live))]
     pub fn is_live(&self, ts: u64, now: u64) -> bool
         ensures { result ≡ is_live self.now ts now }
     {
-        bucket(now) <= bucket(ts) + bucket(self.lifetime_us) + 1
+        bucket(now) <= bucket(ts) + self.live_buckets()
     }
 
     /// The key epoch of a timestamp, in microseconds.

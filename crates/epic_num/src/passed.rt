@@ -1,3 +1,5 @@
+//! What became of an emission that was passed on.
+
 ghost use Rattle.std.specs.Prelude.{◌≡◌, List};
 
 use crate::{Arrival, AsId, HostId, Turn, Verdict};

@@ -1,3 +1,5 @@
+//! Paths: legs that meet.
+
 ghost use Rattle.std.specs.Prelude.{IsTrue};
 ghost use Rattle.epic_num.specs.Paths.{is_lawful};
 

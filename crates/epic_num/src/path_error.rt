@@ -1,3 +1,5 @@
+//! Why segments make no path.
+
 /// Why segments make no path.
 #[derive(Clone, Copy, Debug, PartialEq, Eq)]
 pub enum PathError {

@@ -1,3 +1,5 @@
+//! Paths by the numbers of their segments.
+
 ghost use Rattle.std.specs.Prelude.{◌≡◌, List};
 
 use arrayvec::ArrayVec;

@@ -1,3 +1,5 @@
+//! Prints ASes and hosts.
+
 ghost use Rattle.std.specs.Prelude.{◌≡◌, ◌++◌, Some, OnOk, OnErr};
 ghost use Rattle.epic_num.specs.Names.{as_text, host_text};
 

@@ -1,3 +1,5 @@
+//! The settings of a topology.
+
 /// The settings that all routers and hosts of a topology share.
 #[derive(Clone, Copy, Debug, PartialEq, Eq)]
 pub struct Profile {

@@ -1,3 +1,5 @@
+//! Reads one number in digits of a base.
+
 ghost use Rattle.std.specs.Prelude.{◌≡◌, ℕ, ◌+◌, ◌*◌, ◌<◌, ◌≤◌, List, [], ◌∷◌, ◌++◌, IfOk, IfErr, IsTrue, None, Some, SomeIff};
 ghost use Rattle.std.specs.Char.{digit_value};
 ghost use Rattle.epic_num.specs.Names.{Writes, is_digit_of, numeral_of, within};

@@ -1,3 +1,5 @@
+//! Segments of hops, and their use in a direction.
+
 ghost use Rattle.std.specs.Prelude.{◌≡◌};
 
 use crate::{AsId, Body};

@@ -1,3 +1,5 @@
+//! Why a source sends no packet.
+
 use crate::AsId;
 
 /// A key that wasn't fetched.

@@ -1,5 +1,6 @@
+//! What parts of a name are worth, and the laws of their texts.
 ghost use Rattle.std.specs.Prelude.{ℕ, ◌^◌, ◌<◌, ◌≤◌, decimal};
-ghost use Rattle.epic_num.specs.Names.{as_of, as_text, host_of, host_text, number_within, IsReadable, IsReadableHost};
+ghost use Rattle.epic_num.specs.Names.{as_from, as_text, host_from, host_text, number_within, IsFrom, IsHostFrom};
 ghost use Rattle.epic_num.specs.Spellings.{HasOneSpelling};
 
 /// How many numbers an isolation domain has for its ASes.
@@ -23,12 +24,13 @@ pub fn number_has_one_spelling()
     ensures { (most : ℕ) → most < 2 ^ 64 → HasOneSpelling (number_within most) (λ n. n ≤ most) decimal }
 {}
 
-/// A law: an AS whose parts aren't 0 has one text.
+/// A law: an AS whose isolation domain and number may be `least` and more has one text. With 0 that is each number of 64
+/// bits; scripts and topologies read those from 1 on.
 pub fn as_has_one_spelling()
-    ensures { HasOneSpelling as_of IsReadable as_text }
+    ensures { (least : ℕ) → least < 2 ^ 16 → HasOneSpelling (as_from least) (IsFrom least) as_text }
 {}
 
 /// A law: a host of such an AS has one text.
 pub fn host_has_one_spelling()
-    ensures { HasOneSpelling host_of IsReadableHost host_text }
+    ensures { (least : ℕ) → least < 2 ^ 16 → HasOneSpelling (host_from least) (IsHostFrom least) host_text }
 {}

@@ -1,3 +1,5 @@
+//! Tables of the standard layouts, of time and of first bytes.
+
 use super::*;
 use std::test::Fail;
 
@@ -122,26 +124,33 @@ fn tells_time(rt: HostRuntime) {
     assert!(rt; !PROFILE.is_stale(u64::MAX, MAX_MOMENT));
     assert!(rt; PROFILE.is_live(SENT, 1_700_000_002_211_839));
     assert!(rt; !PROFILE.is_live(SENT, 1_700_000_002_211_840));
+    assert_eq!(rt;
+        (bucket(262_143), bucket(262_144), PROFILE.live_buckets()),
+        (0, 1, 8)
+    );
     assert_eq!(rt; PROFILE.epoch_of(1_700_006_399_999_999), 19_675);
     assert_eq!(rt; PROFILE.epoch_of(1_700_006_400_000_000), 19_676);
 }
 
 #[test]
 fn reads_first_bytes(rt: HostRuntime) {
+    // First byte, version, level, width; whether fields are made for one packet, and updated on the way.
     let table = [
-        (0xE0, 1, Level::L0, 3),
-        (0xE1, 1, Level::L1, 3),
-        (0xE2, 1, Level::L2, 3),
-        (0xE3, 1, Level::L3, 3),
-        (0xF2, 2, Level::L2, 6),
-        (0xF3, 2, Level::L3, 6),
+        (0xE0, 1, Level::L0, 3, false, false),
+        (0xE1, 1, Level::L1, 3, true, false),
+        (0xE2, 1, Level::L2, 3, true, false),
+        (0xE3, 1, Level::L3, 3, true, true),
+        (0xF2, 2, Level::L2, 6, true, false),
+        (0xF3, 2, Level::L3, 6, true, true),
     ];
-    for (first, version, level, width) in table {
+    for (first, version, level, width, timed, updated) in table {
         assert!(rt; is_first_byte(first));
         assert_eq!(rt; first_byte(version, level), first);
         assert_eq!(rt; level_of(first), level);
         assert_eq!(rt; version_of(first), version);
         assert_eq!(rt; width_of(first), width);
+        assert_eq!(rt; is_timed(first), timed);
+        assert_eq!(rt; is_updated(first), updated);
     }
     for first in [0xDF, 0xE4, 0xEF, 0xF0, 0xF1, 0xF4] {
         assert!(rt; !is_first_byte(first));

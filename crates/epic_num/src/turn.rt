@@ -1,3 +1,5 @@
+//! What a router answers to a packet.
+
 use crate::LayoutError;
 
 /// A router's check that failed.

@@ -1,3 +1,5 @@
+//! What the ledger tells of an acceptance.
+
 use crate::{HopName, KeyName};
 
 /// Which tag two hops have in common.

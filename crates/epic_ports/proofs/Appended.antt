@@ -1,6 +1,6 @@
 -- What follows of bytes that were written in pieces.
-use Rattle.std.proofs.Common.{List, ℕ, [], ◌++◌, Option, Some, None, Result, Ok, Err, OnErr, sym, ◌∙◌, ap, append_assoc, append-nil}
-use Rattle.epic_ports.specs.Written.{Appends, AppendsFront, Keeps}
+use Rattle.std.proofs.Common.{◌≡◌, ◌<◌, List, ℕ, [], ◌∷◌, ◌++◌, length, Option, Some, None, Result, Ok, Err, OnErr, sym, ◌∙◌, ap, subst, append_assoc, append-nil, arith}
+use Rattle.epic_ports.specs.Written.{Appends, AppendsFront, Keeps, WritesBefore}
 
 -- nothing was written where nothing changed
 pub Appends-none : (w : Option (List ℕ)) → Appends w w []
@@ -46,3 +46,49 @@ AppendsFront-whole u v a first = (a, [], sym (append-nil a), first)
 pub on_err : {X E : Type 0} (r : Result X E) (P : Type 0) → P → OnErr r P
 on_err (Ok x) P p = tt
 on_err (Err e) P p = p
+
+-- what is kept after a piece leaves that piece
+pub Appends-then_kept : (u v w : Option (List ℕ)) (a : List ℕ) → Appends u v a → Keeps v w → Appends u w a
+Appends-then_kept u v w a first keeps =
+    let P = Appends u w in subst P (append-nil a) (Appends-trans u v w a [] first (Appends-kept v w keeps))
+
+-- some bytes were written, of those that are left none, and there are some
+pub WritesBefore-here : (u v w : Option (List ℕ)) (front rest bytes : List ℕ)
+    → bytes ≡ front ++ rest
+    → 0 < length rest
+    → Appends u v front
+    → Keeps v w
+    → WritesBefore u w bytes
+WritesBefore-here u v w front [] bytes is some first keeps = absurd (omega arith)
+WritesBefore-here u v w front (byte ∷ back) bytes is some first keeps = record {
+  front = front;
+  byte = byte;
+  back = back;
+  order = is;
+  written = Appends-then_kept u v w front first keeps;
+}
+
+-- after a piece was written, less of the next piece was
+pub WritesBefore-after : (u v w : Option (List ℕ)) (a b : List ℕ)
+    → Appends u v a
+    → WritesBefore v w b
+    → WritesBefore u w (a ++ b)
+WritesBefore-after u v w a b first next = record {
+  front = a ++ next.front;
+  byte = next.byte;
+  back = next.back;
+  order = ap (λ x. a ++ x) next.order ∙ sym (append_assoc a next.front (next.byte ∷ next.back));
+  written = Appends-trans u v w a next.front first next.written;
+}
+
+-- less of a piece is less of what begins with that piece
+pub WritesBefore-more : (u v : Option (List ℕ)) (a b : List ℕ)
+    → WritesBefore u v a
+    → WritesBefore u v (a ++ b)
+WritesBefore-more u v a b less = record {
+  front = less.front;
+  byte = less.byte;
+  back = less.back ++ b;
+  order = ap (λ x. x ++ b) less.order ∙ append_assoc less.front (less.byte ∷ less.back) b;
+  written = less.written;
+}

@@ -1,5 +1,5 @@
 -- What follows of counts by name.
-use Rattle.std.proofs.Common.{◌≡◌, List, ℕ, arith, refl}
+use Rattle.std.proofs.Common.{◌≡◌, List, ℕ, ◌∙◌, arith, refl}
 use Rattle.epic_ports.specs.Faults.{CountsFault, CountsOnly, Rose}
 
 -- counts that agree at each name are the same
@@ -23,3 +23,13 @@ pub rose_after : (name : List ℕ) (f g h : List ℕ → ℕ)
     → CountsFault name g h
     → Rose (f name) (h name)
 rose_after name f g h same fault = rw (← same, fault.once) (omega arith)
+
+-- a count that didn't fall, and then didn't again
+pub counts_twice : (name : List ℕ) (f g h : List ℕ → ℕ)
+    → CountsOnly name f g
+    → CountsOnly name g h
+    → CountsOnly name f h
+counts_twice name f g h first next = record {
+  later = omega (arith, first.later, next.later);
+  others = λ q other. next.others q other ∙ first.others q other;
+}

@@ -1,5 +1,6 @@
 pub mod Appended
 mod Counting
+mod Grown
 mod HasFront
 mod MemFiles
 mod MemPieces

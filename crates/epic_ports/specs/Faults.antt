@@ -35,6 +35,12 @@ FailsBy before now (Ok x) = ⊤
 FailsBy before now (Err Failed) = Rose before now
 FailsBy before now (Err OutOfMemory) = now ≡ before
 
+-- the same of a call that may have counted faults before memory ran out
+abbrev pub FailsWhereRose : {X : Type 0} → ℕ → ℕ → Result X PortError → Type 0
+FailsWhereRose before now (Ok x) = ⊤
+FailsWhereRose before now (Err Failed) = Rose before now
+FailsWhereRose before now (Err OutOfMemory) = ⊤
+
 -- the same of a call that takes no memory, so that Failed is its only error
 abbrev pub FailsOnlyBy : {X : Type 0} → ℕ → ℕ → Result X PortError → Type 0
 FailsOnlyBy before now (Ok x) = ⊤

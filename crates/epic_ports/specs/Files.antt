@@ -46,6 +46,14 @@ abbrev pub Grows : Option Files → Option Files → List ℕ → List ℕ → T
 Grows old new name [] = KeepsFiles old new
 Grows old new name (byte ∷ bytes) = Replaces old new name (bytes_at old name ++ (byte ∷ bytes))
 
+-- the bytes before some byte were added at the end of this name; that byte and those after it were not
+pub record GrowsBefore (old new : Option Files) (name bytes : List ℕ) : Type 0 where
+  pub front : List ℕ
+  pub byte : ℕ
+  pub back : List ℕ
+  pub order : bytes ≡ front ++ byte ∷ back
+  pub added : Grows old new name front
+
 -- the first n bytes of the buffer are the bytes from `at` on, and none comes only at their end. (At
 -- or past the end n is 0 by the first fact.)
 pub record GivesPiece (bytes : List ℕ) (at n : ℕ) (buffer : List ℕ) : Type 0 where

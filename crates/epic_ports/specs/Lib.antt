@@ -5,5 +5,6 @@ pub mod Files
 pub mod MemFiles
 pub mod MemSink
 pub mod MemStore
+pub mod NamedStore
 pub mod StdSink
 pub mod Written

@@ -59,3 +59,9 @@ CountsWhere name old new (Err OutOfMemory) = new ≡ old
 pub record CountsCall {X : Type 0} (old new : MemStore) (result : Result X PortError) : Type 0 where
   pub calls : new.calls ≡ calls_after old.calls result
   pub fail : new.fail.items ≡ old.fail.items
+
+-- a fault of this name was counted; where memory ran out nothing was
+abbrev pub CountsRefusal : {X E : Type 0}
+    → List ℕ → (List ℕ → ℕ) → (List ℕ → ℕ) → Result X E → Type 0
+CountsRefusal name old new (Ok x) = CountsFault name old new
+CountsRefusal name old new (Err e) = new ≡ old

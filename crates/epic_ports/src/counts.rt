@@ -1,3 +1,5 @@
+//! How many reads and writes of each name failed.
+
 ghost use Rattle.std.specs.Prelude.{◌≡◌, ◌≤◌};
 ghost use Rattle.epic_ports.specs.Faults.{next_count};
 

@@ -1,3 +1,5 @@
+//! A store over the system's files.
+
 ghost use Rattle.std.specs.Io.{ReadsAtMost, WritesAtMost};
 
 use crate::counts::FaultCounts;

@@ -1,3 +1,5 @@
+//! Why a port did nothing.
+
 ghost use Rattle.std.specs.Prelude.{◌≡◌};
 ghost use Rattle.epic_ports.specs.declared.error.PortError.TheVariants as port_error;
 ghost use Rattle.epic_ports.specs.declared.error.ReadError.TheVariants as read_error;

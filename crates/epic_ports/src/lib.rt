@@ -11,6 +11,7 @@ pub mod error;
 mod mem_file;
 pub mod mem_sink;
 pub mod mem_store;
+pub mod named_store;
 pub mod sink;
 pub mod std_sink;
 pub mod store;
@@ -20,10 +21,11 @@ pub use disk_store::DiskStore;
 pub use error::{PortError, ReadError};
 pub use mem_sink::MemSink;
 pub use mem_store::MemStore;
+pub use named_store::NamedStore;
 pub use sink::Sink;
 pub use std_sink::StdSink;
 pub use store::Store;
-pub use whole::{read_whole, write_all};
+pub use whole::{append_all, read_whole, write_all};
 
 #[cfg(test)]
 mod tests;

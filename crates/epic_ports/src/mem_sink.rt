@@ -1,3 +1,5 @@
+//! A sink in memory, for tests.
+
 ghost use Rattle.std.specs.Prelude.{◌≡◌, ◌≤◌, vec_len, vec_capacity};
 
 use crate::counts::next;

@@ -1,9 +1,12 @@
+//! A store in memory, for tests.
+
 ghost use Rattle.std.specs.Prelude.{◌≡◌};
 
 use crate::counts::{FaultCounts, next};
 use crate::error::PortError;
 use crate::mem_file::{all_differ, empty_file, file, grow_file, read_piece};
 use crate::store::Store;
+use std::alloc::AllocError;
 
 /// A store in memory that tells its contents, for tests: it fails when it is told to.
 ///
@@ -20,7 +23,8 @@ impl MemStore {
     ghost use Rattle.std.specs.Prelude.{◌≡◌, IsTrue, option_copied};
     ghost use Rattle.epic_ports.specs.Faults.{is_listed};
     ghost use Rattle.epic_ports.specs.MemFiles.{names_differ};
-    ghost use Rattle.epic_ports.specs.MemStore.{HoldsNew, contents_of};
+    ghost use Rattle.epic_ports.specs.MemStore.{CountsRefusal, HoldsNew, contents_of, reads_of, told_of};
+    ghost use Rattle.epic_ports.specs.MemStore.{writes_of};
 
     /// Whether no two of these files have one name.
     pub fn names_differ(files: &[(String, Vec<u8>)]) -> bool
@@ -49,6 +53,28 @@ impl MemStore {
         ensures { option_copied result ≡ contents_of self.now name.now }
     {
         file(&self.files, name)
+    }
+
+    /// Counts a failed read of `name`, which is no call of the store.
+    pub(crate) fn refuse_read(&mut self, name: &str) -> Result<(), AllocError>
+        ensures files { told_of self.new ≡ told_of self.old }
+        ensures reads { CountsRefusal name.now (reads_of self.old) (reads_of self.new) result }
+        ensures writes { writes_of self.new ≡ writes_of self.old }
+    {
+        self.counts.make_room(name)?;
+        self.counts.count_read(name);
+        Ok(())
+    }
+
+    /// Counts a failed write of `name`, which is no call of the store.
+    pub(crate) fn refuse_write(&mut self, name: &str) -> Result<(), AllocError>
+        ensures files { told_of self.new ≡ told_of self.old }
+        ensures reads { reads_of self.new ≡ reads_of self.old }
+        ensures writes { CountsRefusal name.now (writes_of self.old) (writes_of self.new) result }
+    {
+        self.counts.make_room(name)?;
+        self.counts.count_write(name);
+        Ok(())
     }
 
     /// Whether the call of this number is one of those that fail.

@@ -1,3 +1,5 @@
+//! What bytes are written to.
+
 ghost use Rattle.std.specs.Prelude.{◌≡◌, ℕ, ◌≤◌, [], List, Option, Ok};
 ghost use Rattle.epic_ports.specs.Faults.{FailsOnlyBy};
 ghost use Rattle.epic_ports.specs.Written.{TakesSome, WriteAppends};

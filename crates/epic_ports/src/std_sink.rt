@@ -1,3 +1,5 @@
+//! A sink over a writer of std.
+
 use crate::counts::next;
 use crate::error::PortError;
 use crate::sink::Sink;

@@ -1,3 +1,5 @@
+//! What files are read from and written to.
+
 ghost use Rattle.std.specs.Prelude.{◌≡◌, ℕ, [], List, Option, take, Ok, IfOk, OnOk, OnErr};
 ghost use Rattle.std.specs.Io.{ReadsAtMost};
 ghost use Rattle.epic_ports.specs.Faults.{CountsOnly, FailsBy};

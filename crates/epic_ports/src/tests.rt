@@ -1,5 +1,8 @@
+//! Tests of stores and sinks, each through its trait.
+
 use crate::{
-    DiskStore, MemSink, MemStore, PortError, ReadError, Sink, StdSink, Store, read_whole, write_all,
+    DiskStore, MemSink, MemStore, NamedStore, PortError, ReadError, Sink, StdSink, Store,
+    append_all, read_whole, write_all,
 };
 use std::alloc::{AllocError, Global};
 use std::process::Abort;
@@ -31,16 +34,13 @@ fn sinks_take_pieces(rt: HostRuntime) -> Result<(), Fail> {
         assert_eq!(rt; sink.written(), want.as_bytes(), "{most} {room} {fail}");
         assert_eq!(rt; is_whole, want.len() == 9, "{most} {room} {fail}");
     }
-    Ok(())
-}
-
-#[test]
-fn writer_that_is_full_is_a_fault(rt: HostRuntime) {
+    // A writer that is full is a fault, too.
     let mut bytes = [0u8; 6];
     let mut sink = StdSink::new(bytes.as_mut_slice());
     assert_eq!(rt; write_text(&mut sink), Err(PortError::Failed));
     drop(sink);
     assert_eq!(rt; bytes, *b"hop fi");
+    Ok(())
 }
 
 /// Whether a file is read as these bytes under a limit, or with this error.
@@ -99,12 +99,11 @@ fn files_are_read_up_to_a_limit(rt: HostRuntime) -> Result<(), Fail> {
 }
 
 /// Makes a file of two pieces and an empty one.
-fn make_file<S: Store>(store: &mut S, name: &str) -> Result<usize, PortError> {
+fn make_file<S: Store>(store: &mut S, name: &str) -> Result<(), PortError> {
     store.create(name)?;
-    let one = store.append(name, b"one ")?;
-    store.append(name, b"")?;
-    let two = store.append(name, b"two")?;
-    Ok(one.saturating_add(two))
+    append_all(store, name, b"one ")?;
+    append_all(store, name, b"")?;
+    append_all(store, name, b"two")
 }
 
 #[test]
@@ -114,25 +113,35 @@ fn files_in_memory_are_made(rt: HostRuntime) -> Result<(), Fail> {
         (0, Some(b"one two".as_slice())),
         (1, None),
         (2, Some(b"".as_slice())),
-        (3, Some(b"one two".as_slice())),
-        (4, Some(b"one ".as_slice())),
+        (3, Some(b"one ".as_slice())),
     ] {
         let mut store = sevens(&rt, alloc, 3, fail)?;
         let is_whole = make_file(&mut store, "b").is_ok();
         assert!(rt; store.file("b") == want, "{fail}");
-        assert!(rt; is_whole == (want == Some(b"one two".as_slice())), "{fail}");
+        assert!(rt; is_whole == (fail == 0), "{fail}");
     }
     Ok(())
 }
 
 #[test]
-fn names_that_are_one(rt: HostRuntime) -> Result<(), Fail> {
+fn stores_fail_at_a_name(rt: HostRuntime) -> Result<(), Fail> {
     let alloc = rt.alloc();
-    let mut files = Vec::new(alloc);
-    for name in ["a", "b", "a"] {
-        files.push((String::from_str(alloc, name)?, Vec::new(alloc)))?;
+    for (name, appends, want) in [
+        ("a", false, Some(b"one two".as_slice())),
+        ("b", false, None),
+        ("b", true, Some(b"".as_slice())),
+    ] {
+        let below = sevens(&rt, alloc, 3, 0)?;
+        let mut store = NamedStore::new(below, String::from_str(alloc, name)?, appends);
+        let is_whole = make_file(&mut store, "b").is_ok();
+        assert!(rt; store.file("b") == want, "{name} {appends}");
+        assert!(rt; is_whole == (name == "a"), "{name} {appends}");
+        // What failed once is done then.
+        assert!(rt;
+            is_whole || make_file(&mut store, "b").is_ok(),
+            "{name} {appends}"
+        );
     }
-    assert!(rt; !MemStore::names_differ(files.as_slice()));
     Ok(())
 }
 
@@ -143,7 +152,7 @@ fn files_on_disk_are_made(rt: HostRuntime) -> Result<(), Fail> {
     let path = env::temp_dir(&rt)?.join(alloc, name.as_str())?;
     let path = path.to_str().ok_or("the folder's name is no text")?;
     let mut store = DiskStore::new(&rt);
-    assert_eq!(rt; make_file(&mut store, path), Ok(7));
+    assert_eq!(rt; make_file(&mut store, path), Ok(()));
     assert!(rt; reads(alloc, &mut store, path, 7, Ok(b"one two".as_slice())));
     assert!(rt; reads(alloc, &mut store, path, 6, Err(ReadError::TooLong)));
     store.create(path)?;

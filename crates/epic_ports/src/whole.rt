@@ -1,7 +1,9 @@
+//! Whole files and whole pieces, read and written in as many calls as it takes.
+
 ghost use Rattle.std.specs.Prelude.{◌≡◌, ◌^◌, ◌≤◌, [], vec_len, IsOk, IfOk, OnOk, OnErr};
-ghost use Rattle.epic_ports.specs.Faults.{CountsOnly, FailsOnlyBy, ReadFailsBy};
-ghost use Rattle.epic_ports.specs.Files.{KeepsFiles, ReadsFile};
-ghost use Rattle.epic_ports.specs.Written.{Appends, AppendsFront};
+ghost use Rattle.epic_ports.specs.Faults.{CountsOnly, FailsOnlyBy, FailsWhereRose, ReadFailsBy};
+ghost use Rattle.epic_ports.specs.Files.{Grows, GrowsBefore, KeepsFiles, ReadsFile};
+ghost use Rattle.epic_ports.specs.Written.{Appends, WritesBefore};
 
 use crate::error::{PortError, ReadError};
 use crate::sink::Sink;
@@ -52,11 +54,11 @@ pub fn read_whole<S: Store>(
 
 /// Writes all of `bytes`, in as many calls as the sink needs, and none where there are no bytes.
 ///
-/// After an error a front of `bytes` was written. `PortError::Failed` is the only error, and comes
-/// only where the sink counted a failed write.
+/// After an error the bytes before some byte were written, and that byte was not.
+/// `PortError::Failed` is the only error, and comes only where the sink counted a failed write.
 pub fn write_all<O: Sink>(sink: &mut O, bytes: &[u8]) -> Result<(), PortError>
     ensures ok { OnOk result (Appends (O.written sink.old) (O.written sink.new) bytes.now) }
-    ensures err { OnErr result (AppendsFront (O.written sink.old) (O.written sink.new) bytes.now) }
+    ensures err { OnErr result (WritesBefore (O.written sink.old) (O.written sink.new) bytes.now) }
     ensures none { bytes.now ≡ [] → IsOk result × (sink.new ≡ sink.old) }
     ensures later { O.faults sink.old ≤ O.faults sink.new }
     ensures cause { FailsOnlyBy (O.faults sink.old) (O.faults sink.new) result }
@@ -64,6 +66,29 @@ pub fn write_all<O: Sink>(sink: &mut O, bytes: &[u8]) -> Result<(), PortError>
     let mut rest = bytes;
     while !rest.is_empty() {
         let n = sink.write(rest)?;
+        rest = &rest[n..];
+    }
+    Ok(())
+}
+
+/// Adds all of `bytes` at the end of the file `name`, in as many calls as the store needs, and none
+/// where there are no bytes. A name that isn't there is made first.
+///
+/// After an error the bytes before some byte were added, and that byte was not.
+/// `PortError::Failed` comes only where the store counted a failed write of `name`.
+pub fn append_all<S: Store>(store: &mut S, name: &str, bytes: &[u8]) -> Result<(), PortError>
+    ensures ok { OnOk result (Grows (S.contents store.old) (S.contents store.new)
+        name.now bytes.now) }
+    ensures err { OnErr result (GrowsBefore (S.contents store.old) (S.contents store.new)
+        name.now bytes.now) }
+    ensures reads { S.reads store.new ≡ S.reads store.old }
+    ensures writes { CountsOnly name.now (S.writes store.old) (S.writes store.new) }
+    ensures cause { FailsWhereRose
+        (S.writes store.old name.now) (S.writes store.new name.now) result }
+{
+    let mut rest = bytes;
+    while !rest.is_empty() {
+        let n = store.append(name, rest)?;
         rest = &rest[n..];
     }
     Ok(())

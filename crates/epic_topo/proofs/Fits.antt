@@ -8,8 +8,10 @@ use Rattle.hex.proofs.HexLemmas.{decode_of-ok, decode_sized-ok, decode_sized-twi
 use Rattle.epic_num.specs.Names.{IsReadable, as_of}
 use Rattle.toml.specs.Data.{Data, Members, no_members, as_integer, as_table}
 use Rattle.epic_num.specs.declared.name.AsId.{AsId}
-use Rattle.epic_topo.specs.Lawful.{IsEnd, IsNewLink, IsNewSystem, IsProfile}
-use Rattle.epic_topo.specs.Network.{Network, same_as, has, is_taken, keeps_core_rule}
+use Rattle.epic_num.specs.Moments.{IsProfile}
+use Rattle.epic_topo.specs.Lawful.{IsEnd, IsNewLink, IsNewSystem}
+use Rattle.epic_num.specs.Same.{same_as}
+use Rattle.epic_topo.specs.Network.{Network, has, is_taken, keeps_core_rule}
 use Rattle.epic_topo.specs.Reading.{fails, only_if, or_fails, value_at, setting_of, setting_at, settings, profile_of, asn_at, iface_at, kind_at, end_at, fitting, next_link, text_at, core_at, master_at, next_system}
 use Rattle.epic_topo.specs.declared.fault.TopoError.{TopoError}
 use Rattle.epic_topo.specs.declared.fault.TopoKey.{TopoKey}
@@ -123,7 +125,7 @@ end_fits n k f t =
     record { known = ap (has n) (sym passed.1) ∙ passed.0; some_iface = within.0; iface = within.1 })))
 
 fitting_fits : (n : Network) (l : Link) → IsEnd n l.a → IsEnd n l.b → IfOk (fitting n l) (IsNewLink n)
-unfolding fitting
+unfolding fitting same_as
 fitting_fits n l a b =
     let place = length n.links + 1 in
     let P : Result Link TopoError → Type 0 = λ r. IfOk r (IsNewLink n) in

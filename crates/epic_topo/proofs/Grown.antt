@@ -7,7 +7,8 @@ use Rattle.std.proofs.lemmas.List.Elements.{All-append}
 use Rattle.std.proofs.lemmas.List.Quantifiers.{all_pairs_push}
 use Rattle.epic_num.specs.declared.name.AsId.{AsId}
 use Rattle.epic_topo.specs.Lawful.{IsEnd, IsLink, IsSystem, IsNewLink, IsNewSystem, IsTopology, HasOtherEnds}
-use Rattle.epic_topo.specs.Network.{Network, same_as, system_of, link_at, has, is_core, neighbour, keeps_core_rule, is_taken, is_end, ends_at, other_end, with_system, with_link}
+use Rattle.epic_num.specs.Same.{same_as}
+use Rattle.epic_topo.specs.Network.{Network, system_of, link_at, has, is_core, neighbour, keeps_core_rule, is_taken, is_end, ends_at, other_end, with_system, with_link}
 use Rattle.epic_topo.specs.declared.network.End.{End}
 use Rattle.epic_topo.specs.declared.network.Link.{Link}
 use Rattle.epic_topo.specs.declared.network.System.{System}
@@ -16,13 +17,16 @@ use Rattle.epic_topo.proofs.Finds.{missing}
 -- ---- small facts
 
 pub as_equal : (a b : AsId) → same_as a b ≡ true → a ≡ b
+unfolding same_as
 as_equal a b e = let same : a.0 ≡ b.0 = eqb-true a.0 b.0 e in λ i. record { 0 = same i }
 
 pub as_same : (a b : AsId) → a ≡ b → same_as a b ≡ true
+unfolding same_as
 as_same a b e = eq-eqb a.0 b.0 (ap (λ (x : AsId). x.0) e)
 
 -- an end stands at its own interface
 pub own_end : (e : End) → is_end e.asn e.iface e ≡ true
+unfolding same_as
 own_end e = and_from _ _ (eq-eqb e.asn.0 e.asn.0 refl) (eq-eqb e.iface e.iface refl)
 
 -- where nothing was found, nothing is there

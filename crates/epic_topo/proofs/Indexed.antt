@@ -7,7 +7,8 @@ use Rattle.std.proofs.lemmas.Bool.Decides.{nat_tests}
 use Rattle.epic_num.specs.declared.name.AsId.{AsId}
 use Rattle.epic_topo.specs.Index.{IsIndexed, IsPlace, end_cmp}
 use Rattle.epic_topo.specs.Lawful.{IsNewLink, IsNewSystem}
-use Rattle.epic_topo.specs.Network.{Network, same_as, system_of, link_at, is_taken, is_end, ends_at, with_system, with_link}
+use Rattle.epic_num.specs.Same.{same_as}
+use Rattle.epic_topo.specs.Network.{Network, system_of, link_at, is_taken, is_end, ends_at, with_system, with_link}
 use Rattle.epic_topo.specs.declared.network.End.{End}
 use Rattle.epic_topo.specs.declared.network.Link.{Link}
 use Rattle.epic_topo.specs.declared.network.System.{System}
@@ -33,6 +34,7 @@ pub indexed_system : (systems more : BTreeMap ℕ ℕ) (links : BTreeMap (ℕ ×
     → IsIndexed systems links n → n.links ≡ [] → length n.systems < 4096 → IsNewSystem n s
     → ((q : ℕ) → get nat_cmp more q ≡ cond (is_eq (nat_cmp s.asn.0 q)) (Some (length n.systems)) (get nat_cmp systems q))
     → IsIndexed more links (with_system n s)
+unfolding same_as
 indexed_system systems more links n s h none few is put =
     record {
       each_system = λ asn. subst (IsPlace (λ x. same_as x.asn asn) (n.systems ++ s ∷ [])) (sym (put asn.0))
@@ -48,6 +50,7 @@ indexed_system systems more links n s h none few is put =
 -- ---- one more link
 
 same_place : (e : End) (asn : AsId) (iface : ℕ) → is_end asn iface e ≡ is_eq (end_cmp (e.asn.0, e.iface) (asn.0, iface))
+unfolding same_as
 same_place e asn iface =
     ap (λ b. b && (e.iface == iface)) (same_number e.asn.0 asn.0)
     ∙ (ap (λ b. is_eq (nat_cmp e.asn.0 asn.0) && b) (same_number e.iface iface)

@@ -5,7 +5,8 @@ use Rattle.std.proofs.lemmas.Option.{slice_get-get_or, slice_get_within, get_or_
 use Rattle.epic_num.specs.Names.{IsReadable, isd_part}
 use Rattle.epic_num.specs.declared.name.AsId.{AsId}
 use Rattle.epic_topo.specs.Lawful.{HasReadableNames, IsSystem, HasOnePlaceEach, IsLink, IsLinked, IsTopology, LinksLeadBack}
-use Rattle.epic_topo.specs.Network.{Network, same_as, same_isd, system_of, link_at, has, is_core, as_at, neighbour, turned, follows_core_rule, keeps_core_rule, is_end, ends_at, other_end}
+use Rattle.epic_num.specs.Same.{same_as}
+use Rattle.epic_topo.specs.Network.{Network, same_isd, system_of, link_at, has, is_core, as_at, neighbour, turned, follows_core_rule, keeps_core_rule, is_end, ends_at, other_end}
 use Rattle.epic_topo.specs.declared.link_kind.LinkKind.{LinkKind}
 use Rattle.epic_topo.specs.declared.link_kind.LinkKind.TheVariants.{Core, Parent, Child}
 use Rattle.epic_topo.specs.declared.network.End.{End}

@@ -4,7 +4,8 @@ use Rattle.std.proofs.lemmas.Bool.{cond_both, leb-true}
 use Rattle.std.proofs.lemmas.List.{length_push}
 use Rattle.toml.specs.Data.{Data, Items, no_items, item, as_array}
 use Rattle.epic_num.specs.declared.profile.Profile.{Profile}
-use Rattle.epic_topo.specs.Lawful.{IsNewLink, IsNewSystem, IsProfile, IsTopology}
+use Rattle.epic_num.specs.Moments.{IsProfile}
+use Rattle.epic_topo.specs.Lawful.{IsNewLink, IsNewSystem, IsTopology}
 use Rattle.epic_topo.specs.Network.{Network, with_link, with_system}
 use Rattle.epic_topo.specs.Reading.{fails, or_fails, value_at, item_count, rows, profile_of, next_system, with_systems, with_systems_of, next_link, with_links, with_links_of, document, topology}
 use Rattle.epic_topo.specs.declared.fault.TopoKey.{TopoKey}

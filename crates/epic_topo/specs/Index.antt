@@ -1,3 +1,4 @@
+-- Private: serves proofs of this crate alone; no public contract cites it.
 -- What the maps of a topology hold: at which place of its lists an AS stands, and the link at an interface.
 use Rattle.std.specs.Prelude.{◌≡◌, ℕ, ◌<◌, Bool, List, length, Option, Some, None, find, slice_get}
 use Rattle.std.specs.Ordering.{nat_cmp, ordering_then}
@@ -5,7 +6,8 @@ use Rattle.std.specs.declared.cmp.Ordering.{Ordering}
 use Rattle.std.specs.BTreeMap.{BTreeMap, get}
 use Rattle.epic_num.specs.declared.name.AsId.{AsId}
 use Rattle.epic_topo.specs.Lawful.{IsTopology}
-use Rattle.epic_topo.specs.Network.{Network, same_as, ends_at}
+use Rattle.epic_num.specs.Same.{same_as}
+use Rattle.epic_topo.specs.Network.{Network, ends_at}
 
 -- the place of the first element that passes, if there is one
 abbrev pub IsPlace : {X : Type 0} → (X → Bool) → List X → Option ℕ → Type 0

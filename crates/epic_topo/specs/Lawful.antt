@@ -1,25 +1,14 @@
 -- What every topology keeps that a text tells of.
-use Rattle.std.specs.Prelude.{◌≡◌, ◌≢◌, ℕ, ◌%◌, ◌<◌, ◌≤◌, true, false, length, All, AllPairs, Some, IfSome}
+use Rattle.std.specs.Prelude.{◌≡◌, ◌≢◌, ℕ, ◌<◌, ◌≤◌, true, false, length, All, AllPairs, Some, IfSome}
 use Rattle.hex.specs.Hex.{IsBytes}
+use Rattle.epic_num.specs.Moments.{IsProfile}
 use Rattle.epic_num.specs.Names.{IsReadable}
 use Rattle.epic_num.specs.declared.name.AsId.{AsId}
-use Rattle.epic_num.specs.declared.profile.Profile.{Profile}
 use Rattle.epic_topo.specs.Network.{Network, has, as_at, neighbour, turned, is_taken, follows_core_rule, keeps_core_rule, ends_at}
 use Rattle.epic_topo.specs.declared.link_kind.LinkKind.{LinkKind}
 use Rattle.epic_topo.specs.declared.network.End.{End}
 use Rattle.epic_topo.specs.declared.network.Link.{Link}
 use Rattle.epic_topo.specs.declared.network.System.{System}
-
--- the settings are in their ranges, and an epoch is of whole seconds
-pub record IsProfile (p : Profile) : Type 0 where
-  pub some_lifetime : 1 ≤ p.lifetime_us
-  pub lifetime : p.lifetime_us ≤ 3600000000
-  pub skew : p.skew_us ≤ 3600000000
-  pub some_epoch : 1000000 ≤ p.epoch_us
-  pub epoch : p.epoch_us ≤ 31536000000000
-  pub seconds : p.epoch_us % 1000000 ≡ 0
-  pub some_window : 1 ≤ p.window
-  pub window : p.window ≤ 65536
 
 -- an AS has a text, and its key is 16 bytes
 pub record IsSystem (s : System) : Type 0 where

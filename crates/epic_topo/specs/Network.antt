@@ -1,6 +1,7 @@
 -- A topology as a value: its settings, its ASes and its links, and what can be asked of it.
 use Rattle.std.specs.Prelude.{ℕ, Bool, false, not, ◌&&◌, ◌||◌, ◌==◌, if◌then◌else◌, List, [], ◌∷◌, ◌++◌, Option, find, is_some, unwrap_or, option_map, slice_get}
 use Rattle.epic_num.specs.Names.{isd_part}
+use Rattle.epic_num.specs.Same.{same_as}
 use Rattle.epic_num.specs.declared.name.AsId.{AsId}
 use Rattle.epic_num.specs.declared.profile.Profile.{Profile}
 use Rattle.epic_topo.specs.declared.link_kind.LinkKind.{LinkKind}
@@ -16,10 +17,6 @@ pub record Network : Type 0 where
   pub links : List Link
 
 -- ---- its ASes
-
--- the two are one AS
-abbrev pub same_as : AsId → AsId → Bool
-same_as a b = a.0 == b.0
 
 -- the entry of an AS
 abbrev pub system_of : Network → AsId → Option System

@@ -9,7 +9,8 @@ use Rattle.toml.specs.Parse.{parse_document}
 use Rattle.epic_num.specs.Names.{as_of}
 use Rattle.epic_num.specs.declared.name.AsId.{AsId}
 use Rattle.epic_num.specs.declared.profile.Profile.{Profile}
-use Rattle.epic_topo.specs.Network.{Network, same_as, has, is_taken, keeps_core_rule, with_system, with_link}
+use Rattle.epic_num.specs.Same.{same_as}
+use Rattle.epic_topo.specs.Network.{Network, has, is_taken, keeps_core_rule, with_system, with_link}
 use Rattle.epic_topo.specs.Words.{key_word}
 use Rattle.epic_topo.specs.declared.fault.TopoError.{TopoError}
 use Rattle.epic_topo.specs.declared.fault.TopoError.TheVariants.{Bad, OutOfMemory}

@@ -1,3 +1,5 @@
+//! Why a text is no topology.
+
 ghost use Rattle.std.specs.Prelude.{◌≡◌};
 ghost use Rattle.epic_topo.specs.Words.{key_word, kind_word};
 

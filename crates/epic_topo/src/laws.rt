@@ -1,3 +1,5 @@
+//! What holds of every topology that was read.
+
 ghost use Rattle.std.specs.Prelude.{ℕ, List, IfOk};
 ghost use Rattle.epic_topo.specs.Lawful.{HasOnePlaceEach, HasReadableNames, IsTopology, LinksLeadBack};
 ghost use Rattle.epic_topo.specs.Network.{Network};

@@ -1,3 +1,5 @@
+//! What a link is for the AS at its end.
+
 /// What a link is for the AS at one end of it.
 #[derive(Clone, Copy, Debug, PartialEq, Eq)]
 pub enum LinkKind {

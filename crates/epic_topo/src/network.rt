@@ -1,3 +1,5 @@
+//! ASes and links as a topology has them.
+
 use crate::LinkKind;
 use epic_num::AsId;
 
@@ -32,6 +34,7 @@ impl Link {
     ghost use Rattle.epic_topo.specs.Network.{other_end};
 
     // The other end of a link that ends at this interface of the AS, and what it is for this AS.
+    #[tactic(auto, unfolding(epic_num::specs::Same::same_as))]
     pub(crate) fn other_end(&self, asn: AsId, iface: u16) -> (AsId, u16, LinkKind)
         ensures { result ≡ other_end asn iface self.now }
     {

@@ -1,6 +1,9 @@
+//! What can be asked of a topology.
+
 ghost use Rattle.std.specs.Prelude.{◌≡◌, ◌<◌, ◌^◌, [], false, length, is_some, IfOk, IfErr, IfSome};
 ghost use Rattle.std.specs.Option.{option_copied};
-ghost use Rattle.epic_topo.specs.Lawful.{HasOnePlaceEach, IsLinked, IsNewLink, IsNewSystem, IsProfile, IsTopology};
+ghost use Rattle.epic_num.specs.Moments.{IsProfile};
+ghost use Rattle.epic_topo.specs.Lawful.{HasOnePlaceEach, IsLinked, IsNewLink, IsNewSystem, IsTopology};
 ghost use Rattle.epic_topo.specs.Network.{as_at, has, is_core, link_at, master, neighbour, system_of, with_link, with_system};
 
 use crate::{Link, LinkKind, System, TopoError};

@@ -1,3 +1,5 @@
+//! Topologies and their faults in tables.
+
 use super::*;
 use epic_num::AsId;
 use std::alloc::Global;

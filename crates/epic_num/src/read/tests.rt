@@ -1,3 +1,5 @@
+//! Tables of texts that are read, or where they leave their form.
+
 use super::*;
 
 #[test]
@@ -42,6 +44,30 @@ fn reads_ases(rt: HostRuntime) {
         let got = read_as(text).map(|a| a.0).map_err(|s| s.at);
         assert_eq!(rt; got, want, "{text:?}");
     }
+}
+
+#[test]
+fn reads_any_ases(rt: HostRuntime) {
+    let cases: [(&str, Result<u64, u32>); 8] = [
+        ("0-0", Ok(0)),
+        ("1-0", Ok(0x0001_0000_0000_0000)),
+        ("0-ff00:0:112", Ok(0x0000_ff00_0000_0112)),
+        ("65535-ffff:ffff:ffff", Ok(u64::MAX)),
+        ("00-1", Err(1)),
+        ("0-00", Err(3)),
+        ("0-0:0:1", Err(3)),
+        ("65536-1", Err(4)),
+    ];
+    for (text, want) in cases {
+        assert!(rt; text.len() < 90);
+        let got = read_any_as(text.as_bytes()).map(|a| a.0).map_err(|s| s.at);
+        assert_eq!(rt; got, want, "{text:?}");
+    }
+    assert_eq!(rt;
+        read_any_host(b"0-0,7").map(|h| (h.asn.0, h.host)),
+        Ok((0, 7))
+    );
+    assert_eq!(rt; read_any_host(b"0-0").map_err(|s| s.at), Err(3));
 }
 
 #[test]

@@ -90,7 +90,7 @@ fn is_taken(topology: &Topology, end: End) -> bool
 }
 
 // The link, where it fits into the topology.
-#[tactic(auto, unfolding(crate::specs::Reading::fitting))]
+#[tactic(auto, unfolding(crate::specs::Reading::fitting, epic_num::specs::Same::same_as))]
 fn fitting(topology: &Topology, link: Link, place: u32) -> Result<Link, TopoError>
     requires { length topology.now.links + 1 ≡ place }
     ensures { result ≡ fitting topology.now link }

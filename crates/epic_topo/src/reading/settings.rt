@@ -1,7 +1,7 @@
 //! The settings of a topology's text.
 ghost use Rattle.std.specs.Prelude.{◌≡◌, ◌≤◌, option_map, IfOk};
 ghost use Rattle.toml.specs.View.{table_view, view};
-ghost use Rattle.epic_topo.specs.Lawful.{IsProfile};
+ghost use Rattle.epic_num.specs.Moments.{IsProfile};
 ghost use Rattle.epic_topo.specs.Reading.{profile_of, setting_at, settings};
 
 use crate::reading::values::{fault, in_range, table_in, value_at};

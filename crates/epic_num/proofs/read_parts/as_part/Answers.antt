@@ -16,5 +16,5 @@ returns-in-Err-Ok-clause-ok c =
 pub returns-in-Err-Err-clause-err : goal.returns-in-Err-Err-clause-err
 unfolding as_part_of
 returns-in-Err-Err-clause-err c = rw c.max.ensures
-    (IsMisspelt-option_or small_part_of groups_of c.args.text.now c.in-Err-Err.at c.in-Err-Err.other
+    (IsMisspelt-option_or (small_part_of c.args.least) groups_of c.args.text.now c.in-Err-Err.at c.in-Err-Err.other
     c.in-Err-Err.ensures.err c.in-Err-Err.ensures'.err)

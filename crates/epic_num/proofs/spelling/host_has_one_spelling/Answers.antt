@@ -1,5 +1,5 @@
-use Rattle.epic_num.proofs.OneSpelling.{host_spelling}
+use Rattle.epic_num.proofs.OneSpelling.{host_from_spelling}
 use Rattle.epic_num.proofs.spelling.host_has_one_spelling.Goals as goal
 
 pub returns : goal.returns
-returns c = host_spelling
+returns c = host_from_spelling
