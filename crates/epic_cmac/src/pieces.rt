@@ -3,7 +3,7 @@
 ghost use Rattle.std.specs.Prelude.{◌≡◌, ℕ, ◌+◌, ◌<◌, ◌≤◌, List, ◌++◌, length, take};
 ghost use Rattle.epic_cmac.specs.Pieces.{IsHeld};
 
-use epic_aes::Aes;
+use crate::key::CmacKey;
 
 // Puts a piece behind the first `used` bytes of the buffer.
 fn put(buffer: &mut [u8; 16], used: usize, piece: &[u8])
@@ -15,7 +15,7 @@ fn put(buffer: &mut [u8; 16], used: usize, piece: &[u8])
 
 // Takes a piece that the buffer has no room for: all blocks but the last go into the chain, those within the piece as they lie there.
 fn spill(
-    cipher: &Aes,
+    key: &CmacKey,
     chain: &mut [u8; 16],
     buffer: &mut [u8; 16],
     used: usize,
@@ -23,31 +23,31 @@ fn spill(
 ) -> usize
     requires room { used ≤ 16 }
     requires over { 16 < used + length piece.now }
-    ensures { (message : List ℕ) → IsHeld cipher.now chain.old buffer.old used message → IsHeld cipher.now chain.new buffer.new result (message ++ piece.now) }
+    ensures { (message : List ℕ) → IsHeld key.now chain.old buffer.old used message → IsHeld key.now chain.new buffer.new result (message ++ piece.now) }
 {
     let (front, rest) = piece.split_at(16 - used);
     put(buffer, used, front);
-    cipher.chain(chain, &[*buffer]);
+    key.chain(chain, &[*buffer]);
     let (whole, last) = rest.split_at(16 * ((rest.len() - 1) / 16));
     let (blocks, _) = whole.as_chunks::<16>();
-    cipher.chain(chain, blocks);
+    key.chain(chain, blocks);
     put(buffer, 0, last);
     last.len()
 }
 
 /// Takes a piece, and answers how many bytes the buffer holds then, where it held `used`.
 pub(crate) fn feed(
-    cipher: &Aes,
+    key: &CmacKey,
     chain: &mut [u8; 16],
     buffer: &mut [u8; 16],
     used: usize,
     piece: &[u8],
 ) -> usize
     requires { used ≤ 16 }
-    ensures { (message : List ℕ) → IsHeld cipher.now chain.old buffer.old used message → IsHeld cipher.now chain.new buffer.new result (message ++ piece.now) }
+    ensures { (message : List ℕ) → IsHeld key.now chain.old buffer.old used message → IsHeld key.now chain.new buffer.new result (message ++ piece.now) }
 {
     if piece.len() > 16 - used {
-        return spill(cipher, chain, buffer, used, piece);
+        return spill(key, chain, buffer, used, piece);
     }
     put(buffer, used, piece);
     used + piece.len()

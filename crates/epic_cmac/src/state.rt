@@ -3,16 +3,15 @@
 ghost use Rattle.std.specs.Prelude.{◌≡◌, [], ◌++◌};
 ghost use Rattle.epic_cmac.specs.Cmac.{cmac};
 
+use crate::key::CmacKey;
 use crate::message::Message;
 use crate::pieces::feed;
-use crate::tag::tag;
-use epic_aes::Aes;
 use std::marker::Model;
 
 /// A tag in the making. Clauses see the key and the message so far.
 #[derive(Drop)]
 pub struct CmacState {
-    cipher: Aes,
+    key: CmacKey,
     chain: [u8; 16],
     buffer: [u8; 16],
     used: usize,
@@ -24,9 +23,9 @@ impl Model for CmacState {
 
     ghost Value = { Fed };
 
-    ghost view = { λ s. record { key = s.cipher; message = s.message.bytes } };
+    ghost view = { λ s. record { key = s.key; message = s.message.bytes } };
 
-    ghost invariant = { λ s. IsHeld s.cipher s.chain s.buffer s.used s.message.bytes };
+    ghost invariant = { λ s. IsHeld s.key s.chain s.buffer s.used s.message.bytes };
 }
 
 impl CmacState {
@@ -35,7 +34,7 @@ impl CmacState {
         ensures { result ≡ record { key = key.now; message = [] } }
     {
         CmacState {
-            cipher: Aes::new(key),
+            key: CmacKey::new(key),
             chain: [0; 16],
             buffer: [0; 16],
             used: 0,
@@ -48,7 +47,7 @@ impl CmacState {
         ensures { self.new ≡ record self.old { message = self.old.message ++ piece.now } }
     {
         self.used = feed(
-            &self.cipher,
+            &self.key,
             &mut self.chain,
             &mut self.buffer,
             self.used,
@@ -61,6 +60,6 @@ impl CmacState {
     pub fn finish(self) -> [u8; 16]
         ensures { result ≡ cmac self.key self.message }
     {
-        tag(&self.cipher, self.chain, &self.buffer[..self.used])
+        self.key.end(self.chain, &self.buffer[..self.used])
     }
 }

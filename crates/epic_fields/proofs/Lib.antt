@@ -1,1 +1,5 @@
-mod FedLemmas
+pub mod FedLemmas
+pub mod FieldBytes
+pub mod Stamps
+pub mod Successors
+pub mod Widths

@@ -47,9 +47,9 @@ pub fn are_updates(packet: &PacketRef<'_>, updates: &[Field]) -> bool
     updates.len() == count as usize && updates.iter().all(|u| u.width == width)
 }
 
-/// The first byte of the message of a destination field, by the packet's first byte.
+/// The first byte of the message of a destination field, by the first byte of the packet, which is of level 2 or 3.
 #[tactic(auto, unfolding(epic_num::specs::Messages::dest_domain, epic_num::specs::Levels::is_tagged))]
-fn dest_domain(first: u8) -> u8
+pub fn dest_domain(first: u8) -> u8
     requires { IsTrue (is_tagged first) }
     ensures { result ≡ dest_domain first }
 {

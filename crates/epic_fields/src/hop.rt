@@ -1,12 +1,14 @@
-//! The tags of hops and of their fields.
+//! The tags of hops and of their fields, under given keys.
 
 ghost use Rattle.std.specs.Prelude.{◌≡◌, take, IsTrue};
-ghost use Rattle.epic_num.specs.Levels.{is_tagged};
+ghost use Rattle.epic_num.specs.Levels.{is_tagged, width_of};
+ghost use Rattle.epic_layout.specs.Contents.{as_field};
 ghost use Rattle.epic_fields.specs.Formulas as formulas;
 
-use epic_cmac::cmac;
+use epic_cmac::{CmacKey, cmac};
 use epic_num::{
-    Body, HostId, authenticator_message, field1_message, field23_message, link_message,
+    Body, Field, HostId, authenticator_message, field1_message, field23_message, link_message,
+    version_of,
 };
 
 /// A hop's authenticator, under the forwarding key of its AS.
@@ -17,12 +19,28 @@ pub fn authenticator(fk: &[u8; 16], body: &Body) -> [u8; 16]
     cmac(fk, &authenticator_message(body))
 }
 
+/// The same under a forwarding key that was made ready before.
+#[tactic(auto, unfolding(crate::specs::Formulas::authenticator))]
+pub fn authenticator_by(key: &CmacKey, body: &Body) -> [u8; 16]
+    ensures { result ≡ formulas.authenticator key.now body.now }
+{
+    key.tag(&authenticator_message(body))
+}
+
 /// A hop's link tag, under the forwarding key of its AS. The next hop of its segment carries it.
 #[tactic(auto, unfolding(crate::specs::Formulas::link_tag))]
 pub fn link_tag(fk: &[u8; 16], body: &Body) -> [u8; 8]
     ensures { result ≡ formulas.link_tag fk.now body.now }
 {
     first_eight(&cmac(fk, &link_message(body)))
+}
+
+/// The same under a forwarding key that was made ready before.
+#[tactic(auto, unfolding(crate::specs::Formulas::link_tag))]
+pub fn link_tag_by(key: &CmacKey, body: &Body) -> [u8; 8]
+    ensures { result ≡ formulas.link_tag key.now body.now }
+{
+    first_eight(&key.tag(&link_message(body)))
 }
 
 /// A hop's field at level 0, from the hop's authenticator.
@@ -57,6 +75,53 @@ pub fn field23(
     ensures { result ≡ formulas.field23 key.now first ts src hop sigma.now }
 {
     cmac(key, &field23_message(first, ts, src, hop, sigma))
+}
+
+/// The field that is the first part of the tag, as wide as fields are by the packet's first byte.
+#[tactic(auto, unfolding(crate::specs::Formulas::field_part, epic_num::specs::Levels::width_of, epic_num::specs::Levels::version_of))]
+pub fn field_part(first: u8, tag: &[u8; 16]) -> Field
+    ensures bytes { result ≡ as_field (formulas.field_part first tag.now) }
+    ensures width { result.width ≡ width_of first }
+{
+    if version_of(first) == 1 {
+        narrow(first_three(tag))
+    } else {
+        wide([tag[0], tag[1], tag[2], tag[3], tag[4], tag[5]])
+    }
+}
+
+/// The update that is the next part of the tag, as wide as fields are by the packet's first byte.
+#[tactic(auto, unfolding(crate::specs::Formulas::update_part, epic_num::specs::Levels::width_of, epic_num::specs::Levels::version_of))]
+pub fn update_part(first: u8, tag: &[u8; 16]) -> Field
+    ensures bytes { result ≡ as_field (formulas.update_part first tag.now) }
+    ensures width { result.width ≡ width_of first }
+{
+    if version_of(first) == 1 {
+        narrow([tag[3], tag[4], tag[5]])
+    } else {
+        wide([tag[6], tag[7], tag[8], tag[9], tag[10], tag[11]])
+    }
+}
+
+/// A field of three bytes.
+#[tactic(auto, unfolding(epic_layout::specs::Contents::as_field))]
+pub(crate) fn narrow(bytes: [u8; 3]) -> Field
+    ensures bytes { result ≡ as_field bytes }
+    ensures width { result.width ≡ 3 }
+{
+    Field {
+        bytes: [bytes[0], bytes[1], bytes[2], 0, 0, 0],
+        width: 3,
+    }
+}
+
+/// A field of six bytes.
+#[tactic(auto, unfolding(epic_layout::specs::Contents::as_field))]
+fn wide(bytes: [u8; 6]) -> Field
+    ensures bytes { result ≡ as_field bytes }
+    ensures width { result.width ≡ 6 }
+{
+    Field { bytes, width: 6 }
 }
 
 /// The first three bytes of a tag.

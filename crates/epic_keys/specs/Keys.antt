@@ -22,17 +22,17 @@ forwarding_key master_key generation = cmac master_key (forwarding_message gener
 unfoldable pub secret_value : List ℕ → ℕ → List ℕ
 secret_value master_key epoch = cmac master_key (secret_message epoch)
 
--- the key of an epoch for another AS
-unfoldable pub as_key : List ℕ → AsId → ℕ → List ℕ
-as_key master_key a epoch = cmac (secret_value master_key epoch) (as_key_message a)
+-- under the secret value of an epoch: the key for another AS
+unfoldable pub as_key : List ℕ → AsId → List ℕ
+as_key secret a = cmac secret (as_key_message a)
 
--- the key of an epoch for a host of another AS
-unfoldable pub host_key : List ℕ → HostId → ℕ → List ℕ
-host_key master_key src epoch = cmac (as_key master_key src.asn epoch) (host_key_message src.host)
+-- the key for a host of another AS
+unfoldable pub host_key : List ℕ → HostId → List ℕ
+host_key secret src = cmac (as_key secret src.asn) (host_key_message src.host)
 
--- the key of an epoch that a host of the AS, by its number, shares with a host of another
-unfoldable pub dest_key : List ℕ → ℕ → HostId → ℕ → List ℕ
-dest_key master_key dst src epoch = cmac (as_key master_key src.asn epoch) (dest_key_message dst src.host)
+-- the key that a host of the AS, by its number, shares with a host of another
+unfoldable pub dest_key : List ℕ → ℕ → HostId → List ℕ
+dest_key secret dst src = cmac (as_key secret src.asn) (dest_key_message dst src.host)
 
 -- the master key of an AS, none where the topology doesn't have it
 unfoldable pub master_key : Network → AsId → List ℕ
@@ -41,5 +41,5 @@ master_key t a = unwrap_or (master t a) []
 -- the key of a name
 unfoldable pub key : Network → KeyName → List ℕ
 key t (Fwd a g) = forwarding_key (master_key t a) g
-key t (Field a src epoch) = host_key (master_key t a) src epoch
-key t (Dest dst src epoch) = dest_key (master_key t dst.asn) dst.host src epoch
+key t (Field a src epoch) = host_key (secret_value (master_key t a) epoch) src
+key t (Dest dst src epoch) = dest_key (secret_value (master_key t dst.asn) epoch) dst.host src

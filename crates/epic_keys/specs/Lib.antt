@@ -1,4 +1,2 @@
 pub mod Fetches
-pub mod Issues
 pub mod Keys
-pub mod Tags

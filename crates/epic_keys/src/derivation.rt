@@ -5,7 +5,7 @@ ghost use Rattle.epic_num.specs.Holders.{holders, is_among};
 ghost use Rattle.epic_topo.specs.Network.{has};
 ghost use Rattle.epic_keys.specs.Keys.{as_key, dest_key, forwarding_key, host_key, key, master_key, owner, secret_value};
 
-use epic_cmac::cmac;
+use epic_cmac::{CmacKey, cmac};
 use epic_num::{
     AsId, Holder, HostId, KeyName, as_key_message, dest_key_message, forwarding_message,
     host_key_message, same_as, same_host, secret_message,
@@ -24,7 +24,10 @@ pub fn owner(name: &KeyName) -> AsId
     }
 }
 
-/// The key, of 16 bytes, of a name whose owner is in the topology.
+/// The key, of 16 bytes, of a name whose owner is in the topology. Each step is a tag by AES-CMAC (RFC 4493): a forwarding
+/// key is that of its generation, under the owner's master key; the others begin with the owner's secret value of the
+/// epoch, under which the source's AS gives a key, and under that the source's host, or both hosts. docs/FORMATS.md has the
+/// messages.
 #[tactic(auto, unfolding(crate::specs::Keys::key, crate::specs::Keys::owner))]
 pub fn derive(topo: &Topology, name: &KeyName) -> [u8; 16]
     requires { IsTrue (has topo.now (owner name.now)) }
@@ -32,9 +35,9 @@ pub fn derive(topo: &Topology, name: &KeyName) -> [u8; 16]
 {
     match *name {
         KeyName::Fwd { a, g } => forwarding_key(&master_key(topo, a), g),
-        KeyName::Field { a, src, epoch } => host_key(&master_key(topo, a), src, epoch),
+        KeyName::Field { a, src, epoch } => host_key(&ready_secret(topo, a, epoch), src),
         KeyName::Dest { dst, src, epoch } => {
-            dest_key(&master_key(topo, dst.asn), dst.host, src, epoch)
+            dest_key(&ready_secret(topo, dst.asn, epoch), dst.host, src)
         }
     }
 }
@@ -60,7 +63,7 @@ pub fn is_holder(name: &KeyName, holder: &Holder) -> bool
 
 /// The master key of an AS of the topology.
 #[tactic(auto, unfolding(crate::specs::Keys::master_key, epic_topo::specs::Network::has, epic_topo::specs::Network::master))]
-fn master_key(topo: &Topology, a: AsId) -> [u8; 16]
+pub fn master_key(topo: &Topology, a: AsId) -> [u8; 16]
     requires { IsTrue (has topo.now a) }
     ensures { result ≡ master_key topo.now a }
 {
@@ -70,45 +73,51 @@ fn master_key(topo: &Topology, a: AsId) -> [u8; 16]
     }
 }
 
-/// The forwarding key of a generation.
+/// The forwarding key of a generation, of the AS with this master key.
 #[tactic(auto, unfolding(crate::specs::Keys::forwarding_key))]
-fn forwarding_key(master: &[u8; 16], generation: u32) -> [u8; 16]
+pub fn forwarding_key(master: &[u8; 16], generation: u32) -> [u8; 16]
     ensures { result ≡ forwarding_key master.now generation }
 {
     cmac(master, &forwarding_message(generation))
 }
 
-/// The secret value of an epoch.
+/// The secret value of an epoch, of the AS with this master key.
 #[tactic(auto, unfolding(crate::specs::Keys::secret_value))]
-fn secret_value(master: &[u8; 16], epoch: u64) -> [u8; 16]
+pub fn secret_value(master: &[u8; 16], epoch: u64) -> [u8; 16]
     ensures { result ≡ secret_value master.now epoch }
 {
     cmac(master, &secret_message(epoch))
 }
 
-/// The key of an epoch for the AS `a`.
-#[tactic(auto, unfolding(crate::specs::Keys::as_key))]
-fn as_key(master: &[u8; 16], a: AsId, epoch: u64) -> [u8; 16]
-    ensures { result ≡ as_key master.now a epoch }
-{
-    cmac(&secret_value(master, epoch), &as_key_message(a))
-}
-
-/// The key of an epoch for the host `src`.
+/// The key for the host `src`, under the secret value of an epoch. Whoever derives many keys of one epoch makes its secret
+/// value ready once.
 #[tactic(auto, unfolding(crate::specs::Keys::host_key))]
-fn host_key(master: &[u8; 16], src: HostId, epoch: u64) -> [u8; 16]
-    ensures { result ≡ host_key master.now src epoch }
+pub fn host_key(secret: &CmacKey, src: HostId) -> [u8; 16]
+    ensures { result ≡ host_key secret.now src }
 {
-    cmac(&as_key(master, src.asn, epoch), &host_key_message(src.host))
+    cmac(&as_key(secret, src.asn), &host_key_message(src.host))
 }
 
-/// The key of an epoch that the host of number `dst` shares with the host `src`.
-#[tactic(auto, unfolding(crate::specs::Keys::dest_key))]
-fn dest_key(master: &[u8; 16], dst: u32, src: HostId, epoch: u64) -> [u8; 16]
-    ensures { result ≡ dest_key master.now dst src epoch }
+/// The key for the AS `a`, under the secret value of an epoch.
+#[tactic(auto, unfolding(crate::specs::Keys::as_key))]
+fn as_key(secret: &CmacKey, a: AsId) -> [u8; 16]
+    ensures { result ≡ as_key secret.now a }
 {
-    cmac(
-        &as_key(master, src.asn, epoch),
-        &dest_key_message(dst, src.host),
-    )
+    secret.tag(&as_key_message(a))
+}
+
+/// The key that the host of number `dst` shares with the host `src`, under the secret value of an epoch.
+#[tactic(auto, unfolding(crate::specs::Keys::dest_key))]
+fn dest_key(secret: &CmacKey, dst: u32, src: HostId) -> [u8; 16]
+    ensures { result ≡ dest_key secret.now dst src }
+{
+    cmac(&as_key(secret, src.asn), &dest_key_message(dst, src.host))
+}
+
+/// The secret value of an epoch of the AS `a`, made ready.
+fn ready_secret(topo: &Topology, a: AsId, epoch: u64) -> CmacKey
+    requires { IsTrue (has topo.now a) }
+    ensures { result ≡ secret_value (master_key topo.now a) epoch }
+{
+    CmacKey::new(&secret_value(&master_key(topo, a), epoch))
 }

@@ -6,6 +6,8 @@ mod key_store;
 #[cfg(test)]
 mod tests;
 
-pub use derivation::{derive, is_holder, owner};
+pub use derivation::{
+    derive, forwarding_key, host_key, is_holder, master_key, owner, secret_value,
+};
 pub use epic_num::NoKey;
 pub use key_store::{Fetched, KeyStore};

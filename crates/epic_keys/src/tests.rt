@@ -1,3 +1,5 @@
+//! Keys and their holders in tables.
+
 use super::*;
 use epic_num::{AsId, Holder, HostId, KeyName};
 use epic_topo::{Topology, read_topology};

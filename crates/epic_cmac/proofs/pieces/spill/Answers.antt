@@ -7,7 +7,7 @@ use Rattle.epic_cmac.proofs.pieces.spill.Goals as goal
 
 pub returns : goal.returns
 returns c = λ message held.
-    let key = c.args.cipher.now in
+    let key = c.args.key.now in
     let rest = c.split_at.result.1.now in
     let last = c.split_at-2.result.1.now in
     let more = (length rest - 1) / 16 in

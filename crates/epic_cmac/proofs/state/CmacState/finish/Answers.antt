@@ -6,7 +6,7 @@ use Rattle.epic_cmac.proofs.state.CmacState.finish.Goals as goal
 pub returns : goal.returns
 returns c =
     let held = c.self.inside in
-    c.tag.ensures
-    ∙ tag-cmac held.cipher held.message.bytes held.chain (take held.used held.buffer) (count_before_last held.message.bytes)
+    c.end.ensures
+    ∙ tag-cmac held.key held.message.bytes held.chain (take held.used held.buffer) (count_before_last held.message.bytes)
     refl c.self.invariant.taken c.self.invariant.left
     ∙ (λ i. cmac (c.self.view_is i).key (c.self.view_is i).message)

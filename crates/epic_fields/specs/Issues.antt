@@ -3,7 +3,7 @@ use Rattle.std.specs.Prelude.{◌≡◌, ◌≢◌, ◌⊎◌, ℕ, ◌+◌, ◌
 use Rattle.epic_num.specs.Chains.{Issue, issue_at}
 use Rattle.epic_topo.specs.declared.link_kind.LinkKind.{LinkKind}
 use Rattle.epic_topo.specs.Network.{Network, has, neighbour}
-use Rattle.epic_keys.specs.Tags.{link}
+use Rattle.epic_fields.specs.Tags.{link}
 
 -- an issue without a parent is the first hop of a segment
 pub record IsRoot (i : Issue) : Type 0 where

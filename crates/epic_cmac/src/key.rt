@@ -1,0 +1,89 @@
+//! A key with all that the tags under it need.
+
+ghost use Rattle.std.specs.Prelude.{◌≡◌, ◌≤◌, length};
+ghost use Rattle.epic_aes.specs.Chain.{block_sum, chain};
+ghost use Rattle.epic_aes.specs.Cipher.{aes};
+ghost use Rattle.epic_cmac.specs.Cmac.{cmac, last_block};
+
+use crate::subkeys::{block_double, first_subkey, padded_block};
+use epic_aes::{Aes, block_sum};
+use std::marker::Model;
+
+/// A key of AES-CMAC (RFC 4493) made ready for use: its round keys and its two subkeys. Clauses see the key, a list of 16
+/// bytes. Whoever makes several tags under one key makes it ready once.
+#[derive(Drop)]
+pub struct CmacKey {
+    cipher: Aes,
+    // The subkeys for a whole last block and for one that is padded.
+    whole: [u8; 16],
+    padded: [u8; 16],
+}
+
+impl Model for CmacKey {
+    ghost use Rattle.std.specs.Prelude.{◌≡◌, ℕ, List};
+    ghost use Rattle.epic_cmac.specs.Cmac.{first_subkey, second_subkey};
+
+    ghost Value = { List ℕ };
+
+    ghost view = { λ k. k.cipher };
+
+    ghost invariant = { λ k. (k.whole ≡ first_subkey k.cipher) × (k.padded ≡ second_subkey k.cipher) };
+}
+
+impl CmacKey {
+    /// Makes the 16 bytes of `key` ready (FIPS 197 5.2, RFC 4493 2.3).
+    #[tactic(auto, unfolding(crate::specs::Cmac::second_subkey))]
+    pub fn new(key: &[u8; 16]) -> CmacKey
+        ensures { result ≡ key.now }
+    {
+        let cipher = Aes::new(key);
+        let whole = first_subkey(&cipher);
+        let padded = block_double(&whole);
+        CmacKey {
+            cipher,
+            whole,
+            padded,
+        }
+    }
+
+    /// The tag, of 16 bytes, of a message under the key (RFC 4493 2.4).
+    pub fn tag(&self, message: &[u8]) -> [u8; 16]
+        ensures { result ≡ cmac self.now message.now }
+    {
+        let mut x = [0; 16];
+        let (front, rest) = message.split_at(16 * (message.len().saturating_sub(1) / 16));
+        let (blocks, _) = front.as_chunks::<16>();
+        self.chain(&mut x, blocks);
+        self.end(x, rest)
+    }
+
+    // Takes blocks before the last into the state of the chain.
+    pub(crate) fn chain(&self, x: &mut [u8; 16], blocks: &[[u8; 16]])
+        ensures { x.new ≡ chain self.now x.old blocks.now }
+    {
+        self.cipher.chain(x, blocks);
+    }
+
+    // The tag of a message from the state of the chain before its last block, and from that block, the 0 to 16 bytes of
+    // `rest`.
+    pub(crate) fn end(&self, x: [u8; 16], rest: &[u8]) -> [u8; 16]
+        requires { length rest.now ≤ 16 }
+        ensures { result ≡ aes self.now (block_sum x (last_block self.now rest.now)) }
+    {
+        let mut block = block_sum(&x, &self.last_block(rest));
+        self.cipher.encrypt(&mut block);
+        block
+    }
+
+    // The last block as it goes into the chain.
+    #[tactic(auto, unfolding(crate::specs::Cmac::last_block))]
+    fn last_block(&self, rest: &[u8]) -> [u8; 16]
+        requires { length rest.now ≤ 16 }
+        ensures { result ≡ last_block self.now rest.now }
+    {
+        match rest.first_chunk::<16>() {
+            Some(whole) => block_sum(whole, &self.whole),
+            None => block_sum(&padded_block(rest), &self.padded),
+        }
+    }
+}
