@@ -4,7 +4,7 @@ use Rattle.std.specs.Prelude.{◌==◌, ◌||◌}
 use Rattle.std.specs.List.{All, AllPass, list_all, flat_map, range_with_len}
 use Rattle.std.specs.Int.{w64}
 use Rattle.std.proofs.lemmas.Bool.{ltb-false, eqb-true, eq-eqb, le-leb, or_parts, or_cases, or_left, or_right, and_from, cases_Bool, false≢true}
-use Rattle.std.proofs.lemmas.List.{append-nil, take_all, take_at, drop_at, length-map, get_or-map}
+use Rattle.std.proofs.lemmas.List.{append-nil, take_all, drop_at, length-map, get_or-map}
 use Rattle.std.proofs.lemmas.List.Concat.{flat_map-append}
 use Rattle.std.proofs.lemmas.List.Elements.{All-replicate}
 use Rattle.std.proofs.lemmas.List.Folds.{list_all-map}
@@ -24,6 +24,7 @@ use Rattle.epic_layout.specs.Sound.{IsSound}
 use Rattle.epic_layout.specs.Laws.{hops_before}
 use Rattle.epic_layout.specs.Decoding.{packet_hop_at, packet_segment_at, packet_segments_in, packet_in}
 use Rattle.epic_layout.specs.Packets.{segment_head_of, hop_head_of, all_hops, contents_of, is_version, is_segment, are_segments, are_zeros, is_field, are_fields, is_valid}
+use Rattle.epic_layout.proofs.Fields.{field_bytes-as_field}
 use Rattle.epic_layout.proofs.Ranges.{map_range_same, map_range_join}
 use Rattle.epic_layout.proofs.Offsets.{hop_there}
 use Rattle.epic_layout.proofs.Cuts.{length-piece}
@@ -140,8 +141,8 @@ heads_decoded b =
     λ k. record { against = (segment_at b i).against; count = count k; ts_path = (segment_at b i).ts_path })
 
 field_read : (b : List ℕ) (j : ℕ) → IsSound b → j < hops_in b → field_bytes (packet_hop_at b j).field ≡ field_at b j
-unfolding packet_hop_at as_field
-field_read b j s h = take_at (field_at b j) (replicate (6 - length (field_at b j)) 0) (length (field_at b j)) refl
+unfolding packet_hop_at
+field_read b j s h = field_bytes-as_field (field_at b j)
 
 contents_decoded : (b : List ℕ) → IsSound b → contents_of (packet_in b) ≡ parse b
 unfolding contents_of packet_in parse route_in packet_hop_at

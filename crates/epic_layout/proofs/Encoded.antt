@@ -17,7 +17,7 @@ use Rattle.epic_layout.specs.declared.packet.PacketHop.{PacketHop}
 use Rattle.epic_layout.specs.declared.packet.PacketSegment.{PacketSegment}
 use Rattle.epic_layout.specs.declared.packet.Packet.{Packet}
 use Rattle.epic_layout.specs.Route.{hops_of}
-use Rattle.epic_layout.specs.Contents.{IsSegment, IsHop, IsRoute, IsPacket, field_bytes, segment_offset, header_len, dest_len}
+use Rattle.epic_layout.specs.Contents.{Contents, IsSegment, IsHop, IsRoute, IsPacket, field_bytes, segment_offset, header_len, dest_len}
 use Rattle.epic_layout.specs.Packets.{segment_head_of, hop_head_of, row_of, FitsRow, all_hops, contents_of, is_version, is_segment, are_segments, are_zeros, is_field, are_fields, is_valid}
 use Rattle.epic_layout.specs.Spelling.{segment_bytes, hop_with_field, size_bytes, end_bytes, dest_bytes, spelling}
 use Rattle.epic_layout.proofs.Offsets.{width_most}
@@ -243,7 +243,31 @@ header_contents p =
 
 pub ruleset valid_limits = (valid_few, valid_few_hops, valid_payload, header_contents)
 
--- the parts put one after the other are the spelling
+-- the parts of a packet put one after the other are its spelling
+pub spelled_from : (p : Contents) (o1 o2 o3 o4 o5 o6 : List ℕ)
+    → o1 ≡ size_bytes p
+    → o2 ≡ o1 ++ end_bytes p
+    → o3 ≡ o2 ++ flat_map segment_bytes p.route.segments
+    → o4 ≡ o3 ++ flat_map hop_with_field (zip p.route.hops p.fields)
+    → o5 ≡ o4 ++ dest_bytes p
+    → o6 ≡ o5 ++ p.payload
+    → o6 ≡ spelling p
+unfolding spelling
+spelled_from p o1 o2 o3 o4 o5 o6 e1 e2 e3 e4 e5 e6 =
+    let a = size_bytes p in
+    let b = end_bytes p in
+    let c = flat_map segment_bytes p.route.segments in
+    let d = flat_map hop_with_field (zip p.route.hops p.fields) in
+    let e = dest_bytes p in
+    let f = p.payload in
+    e6
+    ∙ ap (λ o. o ++ f) (e5 ∙ ap (λ o. o ++ e) (e4 ∙ ap (λ o. o ++ d) (e3 ∙ ap (λ o. o ++ c) (e2 ∙ ap (λ o. o ++ b) e1))))
+    ∙ append_assoc ((((a ++ b) ++ c) ++ d)) e f
+    ∙ append_assoc ((a ++ b) ++ c) d (e ++ f)
+    ∙ append_assoc (a ++ b) c (d ++ (e ++ f))
+    ∙ append_assoc a b (c ++ (d ++ (e ++ f)))
+
+-- and so are those of a decoded packet
 pub encoded : (p : Packet) (o1 o2 o3 o4 o5 o6 : List ℕ)
     → o1 ≡ size_bytes (contents_of p)
     → o2 ≡ o1 ++ end_bytes (contents_of p)
@@ -252,19 +276,10 @@ pub encoded : (p : Packet) (o1 o2 o3 o4 o5 o6 : List ℕ)
     → o5 ≡ o4 ++ (if is_tagged (first_byte p.version p.level) then p.dest_field else [])
     → o6 ≡ o5 ++ p.payload
     → o6 ≡ spelling (contents_of p)
-unfolding spelling dest_bytes contents_of
+unfolding dest_bytes contents_of
 encoded p o1 o2 o3 o4 o5 o6 e1 e2 e3 e4 e5 e6 =
     let ss = p.segments in
-    let a = size_bytes (contents_of p) in
-    let b = end_bytes (contents_of p) in
-    let c = flat_map (λ s. segment_bytes (segment_head_of s)) ss in
-    let d = flat_map (λ s. flat_map row_of s.hops.items) ss in
-    let e = if is_tagged (first_byte p.version p.level) then p.dest_field else [] in
-    let f = p.payload in
-    e6
-    ∙ ap (λ o. o ++ f) (e5 ∙ ap (λ o. o ++ e) (e4 ∙ ap (λ o. o ++ d) (e3 ∙ ap (λ o. o ++ c) (e2 ∙ ap (λ o. o ++ b) e1))))
-    ∙ append_assoc ((((a ++ b) ++ c) ++ d)) e f
-    ∙ append_assoc ((a ++ b) ++ c) d (e ++ f)
-    ∙ append_assoc (a ++ b) c (d ++ (e ++ f))
-    ∙ append_assoc a b (c ++ (d ++ (e ++ f)))
-    ∙ (λ i. a ++ (b ++ (sym (segments_flat ss) i ++ (sym (rows_spelled ss) i ++ (e ++ f)))))
+    spelled_from (contents_of p) o1 o2 o3 o4 o5 o6 e1 e2
+    (e3 ∙ ap (λ c. o2 ++ c) (sym (segments_flat ss)))
+    (e4 ∙ ap (λ d. o3 ++ d) (sym (rows_spelled ss)))
+    e5 e6

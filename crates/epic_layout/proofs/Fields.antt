@@ -1,12 +1,15 @@
 -- The fields of a packet, read from its bytes.
-use Rattle.std.proofs.Common.{◌≡◌, ℕ, ◌+◌, ◌-◌, ◌≤◌, ◌≢◌, Bool, true, false, List, [], ◌∷◌, ◌++◌, length, take, drop, replicate, refl, ap, sym, ◌∙◌, arith, cond}
+use Rattle.std.proofs.Common.{◌≡◌, ℕ, ◌+◌, ◌-◌, ◌<◌, ◌≤◌, ◌≢◌, Bool, true, false, List, [], ◌∷◌, ◌++◌, length, take, drop, replicate, refl, ap, sym, ◌∙◌, arith, cond}
 use Rattle.std.specs.Prelude.{nat_lt}
 use Rattle.std.proofs.lemmas.Bool.{cond-true, cond-false}
-use Rattle.std.proofs.lemmas.List.{length-drop, length-take-le, drop_more, append-nil}
+use Rattle.std.proofs.lemmas.List.{length-drop, length-take-le, drop_more, append-nil, take_at}
 use Rattle.epic_num.specs.Levels.{width_of, is_tagged}
 use Rattle.epic_layout.specs.Pieces.{byte, piece}
-use Rattle.epic_layout.specs.Contents.{as_field, dest_len}
-use Rattle.epic_layout.specs.Layout.{hop_len, hop_offset, field_at, dest_field_in, dest_offset, header_len_in}
+use Rattle.epic_layout.specs.Contents.{as_field, field_bytes, dest_len}
+use Rattle.epic_layout.specs.Layout.{hops_in, hop_len, hop_offset, field_offset, field_at, dest_field_in, dest_offset, header_len_in}
+use Rattle.epic_layout.specs.Sound.{IsSound}
+use Rattle.epic_layout.proofs.Cuts.{length-piece}
+use Rattle.epic_layout.proofs.Offsets.{hop_there}
 
 other_width : (t : Bool) → (13 + cond t 3 6 ≡ 16 → ⊥) → ◌≡◌ {A = ℕ} (cond t 3 6) 6
 other_width true n = absurd (n refl)
@@ -54,3 +57,15 @@ dest_field_untagged b e = cond-false _ _ _ e
 pub ruleset fields = (field_3, field_6, width_6)
 
 pub ruleset dest_fields = (header_tagged, dest_field_tagged, dest_field_untagged)
+
+-- a field that is read has the bytes that stand there
+pub field_bytes-as_field : (v : List ℕ) → field_bytes (as_field v) ≡ v
+unfolding as_field
+field_bytes-as_field v = take_at v (replicate (6 - length v) 0) (length v) refl
+
+-- and their number is the packet's width
+pub width-field_at : (b : List ℕ) (j : ℕ) → IsSound b → j < hops_in b → (as_field (field_at b j)).width ≡ width_of (byte b 0)
+unfolding as_field
+width-field_at b j s h = length-piece b (field_offset b j) (width_of (byte b 0)) (omega (arith, hop_there b j s h))
+
+pub ruleset field_parts = (field_bytes-as_field, width-field_at)

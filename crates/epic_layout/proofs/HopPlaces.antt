@@ -13,7 +13,7 @@ pub hops_of-cons : (s : SegmentHead) (ss : List SegmentHead) → hops_of (s ∷ 
 unfolding hops_of
 hops_of-cons s ss = sum_by-cons (λ t. t.count) s ss
 
-hops_of-nil : hops_of [] ≡ 0
+pub hops_of-nil : hops_of [] ≡ 0
 unfolding hops_of
 hops_of-nil = refl
 
@@ -106,7 +106,7 @@ places_are_one ss = record {
 -- ---- neighbours
 
 -- the place before a place of the same segment
-previous : HopPlace → HopPlace
+abbrev pub previous : HopPlace → HopPlace
 previous p = record p { index = p.index - 1 }
 
 not_first : (p : HopPlace) → is_first p ≡ false → 0 < p.index
@@ -114,8 +114,7 @@ unfolding is_first
 not_first p e = omega (arith, eqb-false p.index 0 e)
 
 -- the hop before one that isn't first stands at the place before
-hop_before : (ss : List SegmentHead) (j : ℕ) → j < hops_of ss → is_first (place ss j) ≡ false → (0 < j) × (place ss (j - 1) ≡ previous (place ss j))
-unfolding previous
+pub hop_before : (ss : List SegmentHead) (j : ℕ) → j < hops_of ss → is_first (place ss j) ≡ false → (0 < j) × (place ss (j - 1) ≡ previous (place ss j))
 hop_before ss j h e =
     let p = place ss j in
     let at = placed ss j h in
@@ -130,7 +129,7 @@ hop_before ss j h e =
 -- positions and successors of a place and the one before
 forward : (p q : HopPlace) (j : ℕ) → q ≡ previous p → p.head.against ≡ false → 0 < p.index → p.index < p.head.count → 0 < j
     → (position p ≡ position q + 1) × (successor q (j - 1) ≡ Some j)
-unfolding previous position successor
+unfolding position successor
 forward p q j e a some inside more =
     let index = p.index in
     let count = p.head.count in
@@ -144,9 +143,9 @@ forward p q j e a some inside more =
           ∙ ap Some on,
     )
 
-backward : (p q : HopPlace) (j : ℕ) → q ≡ previous p → p.head.against ≡ true → 0 < p.index → p.index < p.head.count
+pub backward : (p q : HopPlace) (j : ℕ) → q ≡ previous p → p.head.against ≡ true → 0 < p.index → p.index < p.head.count
     → (position q ≡ position p + 1) × (successor p j ≡ Some (j - 1))
-unfolding previous position successor
+unfolding position successor
 backward p q j e a some inside =
     let index = p.index in
     let count = p.head.count in
@@ -162,7 +161,6 @@ either true f g = f refl
 either false f g = g refl
 
 pub neighbours_follow : NeighboursFollow
-unfolding previous
 neighbours_follow ss j h e =
     let p = place ss j in
     let at = placed ss j h in

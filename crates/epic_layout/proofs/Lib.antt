@@ -17,3 +17,5 @@ pub mod Decoded
 pub mod Fields
 pub mod Encoded
 pub mod SamePacket
+pub mod Joins
+pub mod Written

@@ -1,5 +1,5 @@
 -- The parts of sound bytes lie within them.
-use Rattle.std.proofs.Common.{ℕ, ◌+◌, ◌*◌, ◌<◌, ◌≤◌, List, length, arith}
+use Rattle.std.proofs.Common.{ℕ, ◌+◌, ◌*◌, ◌<◌, ◌≤◌, List, length, mul-le-mul_right, arith}
 use Rattle.std.proofs.lemmas.Bool.{cond_both}
 use Rattle.std.proofs.Math.Nat.{mul-le-mul_left}
 use Rattle.std.specs.Prelude.{nat_lt}
@@ -32,3 +32,7 @@ hop_within b j h = row_within (segment_offset (byte b 6)) (hop_len b) j (hops_in
 pub hop_there : (b : List ℕ) (j : ℕ) → IsSound b → j < hops_in b → hop_offset b j + hop_len b ≤ length b
 unfolding header_len_in
 hop_there b j s h = omega (arith, hop_within b j h, s.header_there)
+
+-- rows are few and narrow
+pub rows_fit : (w n : ℕ) → w ≤ 19 → n ≤ 48 → w * n ≤ 912
+rows_fit w n narrow few = omega (arith, mul-le-mul_left w few, mul-le-mul_right 48 narrow)

@@ -4,6 +4,7 @@ use Rattle.epic_layout.specs.Route.{place, successor, ingress, egress, body}
 use Rattle.epic_layout.specs.Contents.{IsPacket, HoldsBytes}
 use Rattle.epic_layout.specs.Spelling.{spelling}
 use Rattle.epic_layout.specs.Laws.{PacketsAreSpelled, SpellingsAreOne, PacketsAreOne, PathsAreOne}
+use Rattle.epic_layout.specs.Reading.{BytesAreRead}
 use Rattle.epic_layout.proofs.Soundness.{sound}
 use Rattle.epic_layout.proofs.Spelled.{spelling-parse}
 use Rattle.epic_layout.proofs.Limits.{IsPacket-parse, HoldsBytes-parse}
@@ -20,6 +21,9 @@ spellings_are_one b p bytes s =
       subst HoldsBytes s.says (HoldsBytes-parse b bytes),
       sym (spelling-parse b bytes whole) ∙ ap spelling s.says,
     )
+
+pub bytes_are_read : BytesAreRead
+bytes_are_read bytes all faultless = IsPacket-parse bytes all (sound bytes faultless)
 
 pub packets_are_one : PacketsAreOne
 packets_are_one b p q s t = sym s.says ∙ t.says

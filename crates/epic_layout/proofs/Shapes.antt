@@ -1,12 +1,15 @@
 -- The sizes of the packet that bytes say.
-use Rattle.std.proofs.Common.{◌≡◌, ℕ, ◌+◌, ◌*◌, List, length, ap, ◌∙◌, arith}
+use Rattle.std.proofs.Common.{◌≡◌, ℕ, ◌+◌, ◌*◌, List, length, None, Ok, ap, sym, ◌∙◌, arith}
+use Rattle.std.specs.Int.{w16}
 use Rattle.std.proofs.lemmas.List.{length-drop}
 use Rattle.std.proofs.lemmas.List.FromFn.{length-map-range_with_len}
-use Rattle.epic_num.specs.Levels.{version_of, width_of, level_of}
+use Rattle.epic_num.specs.Levels.{version_of, width_of, level_of, is_first_byte}
+use Rattle.epic_num.specs.Tables.{unless}
 use Rattle.epic_layout.specs.declared.shape.Shape.{Shape}
-use Rattle.epic_layout.specs.Pieces.{byte}
+use Rattle.epic_layout.specs.Pieces.{byte, number}
 use Rattle.epic_layout.specs.Contents.{hop_count, header_len, shape, segment_offset, dest_len}
-use Rattle.epic_layout.specs.Layout.{parse, route_in, segments_in, segment_at, hops_in, hop_at, header_len_in, hop_offset}
+use Rattle.epic_layout.specs.Layout.{parse, route_in, segments_in, segment_at, hops_in, hop_at, header_len_in, hop_offset, fault, checked}
+use Rattle.epic_layout.proofs.Soundness.{sound}
 
 pub segments_parse : (b : List ℕ) → length (parse b).route.segments ≡ byte b 6
 unfolding parse route_in segments_in
@@ -45,3 +48,14 @@ unfolding shape parse
 shape_level b s e = ap (λ t. t.level) e
 
 pub ruleset sizes = (shape_header, shape_version, shape_level)
+
+-- what the check answers of bytes without a fault, read from their header
+pub shape_known : (b : List ℕ) → fault is_first_byte b ≡ None
+    → Ok (record { version = version_of (byte b 0); level = level_of (byte b 0); segments = byte b 6; hops = hops_in b; header = number w16 b 2; payload = number w16 b 4 }) ≡ checked b
+shape_known b e =
+    let s = sound b e in
+    (λ i. Ok (record { version = version_of (byte b 0); level = level_of (byte b 0); segments = byte b 6; hops = hops_in b; header = s.header i; payload = number w16 b 4 }))
+    ∙ ap Ok (sym (shape_parse b (number w16 b 4) s.whole))
+    ∙ sym (ap (λ f. unless f (shape (parse b))) e)
+
+pub ruleset sizes_known = (sound, shape_known)

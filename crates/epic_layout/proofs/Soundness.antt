@@ -1,21 +1,19 @@
 -- Bytes without a fault are sound, and sound bytes have no fault.
-use Rattle.std.proofs.Common.{◌≡◌, ℕ, zero, suc, ◌≤◌, Bool, true, false, List, [], ◌∷◌, length, get_or, Option, Some, None, Ok, Err, refl, arith, if◌then◌else◌}
+use Rattle.std.proofs.Common.{◌≡◌, ℕ, zero, suc, ◌≤◌, Bool, false, List, [], ◌∷◌, length, get_or, Option, Some, None, Ok, refl, sym, arith, if◌then◌else◌}
 use Rattle.std.proofs.lemmas.Bool.{not-false, ltb-false, eqb-true, le-ltb, eq-eqb, or_parts, or_from, not_from_true}
 use Rattle.epic_num.specs.declared.layout_error.LayoutError.{LayoutError}
 use Rattle.epic_num.specs.declared.layout_error.LayoutError.TheVariants.{Short}
 use Rattle.epic_num.specs.Levels.{is_first_byte}
-use Rattle.epic_layout.specs.Layout.{tests, first_fault, fault, or_fault}
+use Rattle.epic_num.specs.Tables.{first_row, unless}
+use Rattle.epic_num.proofs.TableLaws.{row_passed, unless_ok}
+use Rattle.epic_layout.specs.Layout.{tests, fault}
 use Rattle.epic_layout.specs.Sound.{IsSound}
 
-passed : (b : Bool) (f : LayoutError) (r : Option LayoutError) → (if b then Some f else r) ≡ None → (b ≡ false) × (r ≡ None)
-passed true f r e = absurd (cc)
-passed false f r e = (refl, e)
-
 -- where no test is met, the k-th isn't
-passes : (ts : List (Bool × LayoutError)) (k : ℕ) → first_fault ts ≡ None → (get_or ts k (false, Short)).0 ≡ false
+passes : (ts : List (Bool × LayoutError)) (k : ℕ) → first_row ts ≡ None → (get_or ts k (false, Short)).0 ≡ false
 passes [] k e = refl
-passes (t ∷ ts) zero e = (passed t.0 t.1 (first_fault ts) e).0
-passes (t ∷ ts) (suc k) e = passes ts k (passed t.0 t.1 (first_fault ts) e).1
+passes (t ∷ ts) zero e = (row_passed t (first_row ts) e).0
+passes (t ∷ ts) (suc k) e = passes ts k (row_passed t (first_row ts) e).1
 
 pub sound : (b : List ℕ) → fault is_first_byte b ≡ None → IsSound b
 unfolding tests
@@ -59,19 +57,10 @@ faultless b s =
     (also _ _ _ (or_from _ _ (le-ltb _ _ s.payload) (not_from_true _ (eq-eqb _ _ s.whole)))
     (also _ _ _ (le-ltb _ _ s.current) refl)))))))))
 
--- what an answer tells of the fault
-faultless_ok : {X : Type 0} (f : Option LayoutError) (x y : X) → Ok x ≡ or_fault f y → (f ≡ None) × (x ≡ y)
-faultless_ok None x y e = (refl, cc)
-faultless_ok (Some g) x y e = absurd (cc)
+pub checked_sound : {X : Type 0} (b : List ℕ) (x y : X) → Ok x ≡ unless (fault is_first_byte b) y → IsSound b
+checked_sound b x y e = sound b (unless_ok (fault is_first_byte b) y x (sym e)).0
 
-fault_err : {X : Type 0} (f : Option LayoutError) (g : LayoutError) (x y : X) → Err g ≡ or_fault f x → Err g ≡ or_fault f y
-fault_err None g x y e = absurd (cc)
-fault_err (Some h) g x y e = cc
-
-pub checked_sound : {X : Type 0} (b : List ℕ) (x y : X) → Ok x ≡ or_fault (fault is_first_byte b) y → IsSound b
-checked_sound b x y e = sound b (faultless_ok (fault is_first_byte b) x y e).0
-
-pub checked_value : {X : Type 0} (b : List ℕ) (x y : X) → Ok x ≡ or_fault (fault is_first_byte b) y → x ≡ y
-checked_value b x y e = (faultless_ok (fault is_first_byte b) x y e).1
+pub checked_value : {X : Type 0} (b : List ℕ) (x y : X) → Ok x ≡ unless (fault is_first_byte b) y → x ≡ y
+checked_value b x y e = sym (unless_ok (fault is_first_byte b) y x (sym e)).1
 
 pub ruleset checked = (checked_sound, checked_value)

@@ -9,6 +9,7 @@ use Rattle.epic_layout.specs.Route.{Route, hops_of}
 use Rattle.epic_layout.specs.declared.head.SegmentHead.{SegmentHead}
 use Rattle.epic_layout.specs.declared.head.HopHead.{HopHead}
 use Rattle.epic_layout.specs.declared.shape.Shape.{Shape}
+use Rattle.epic_layout.specs.declared.wire.TheConstants.{FIXED_LEN, SEGMENT_LEN, HOP_LEN, LINK_LEN, DEST_LEN, MAX_SEGMENTS, MIN_SEGMENT_HOPS, MAX_SEGMENT_HOPS, MAX_HOPS, MAX_PAYLOAD}
 
 -- The version, the level and the width of a field are functions of the first byte. A field is a list of bytes, one
 -- for each hop in travel order. The destination field of levels 0 and 1 is 16 zeros.
@@ -43,16 +44,23 @@ field_bytes f = take f.width f.bytes
 
 -- where the header of segment i begins, and where the hops begin after i segments
 abbrev pub segment_offset : ℕ → ℕ
-segment_offset i = 40 + 8 * i
+segment_offset i = FIXED_LEN + SEGMENT_LEN * i
+
+-- how many bytes a hop takes with its field
+abbrev pub row_len : ℕ → ℕ
+row_len first = HOP_LEN + width_of first
 
 -- how many bytes the destination field takes
 unfoldable pub dest_len : ℕ → ℕ
-dest_len first = if is_tagged first then 16 else 0
+dest_len first = if is_tagged first then DEST_LEN else 0
+
+-- How many bytes stand before the payload of a packet with this first byte and these numbers of segments and hops.
+abbrev pub header_len_of : ℕ → ℕ → ℕ → ℕ
+header_len_of first segments hops = segment_offset segments + row_len first * hops + dest_len first
 
 -- how many bytes stand before the payload
 unfoldable pub header_len : Contents → ℕ
-header_len p =
-    segment_offset (length p.route.segments) + (13 + width_of p.first) * hop_count p + dest_len p.first
+header_len p = header_len_of p.first (length p.route.segments) (hop_count p)
 
 unfoldable pub shape : Contents → Shape
 shape p = record {
@@ -71,23 +79,31 @@ IsBytes bytes = All (λ b. b < 256) bytes
 
 -- a segment has 2 to 16 hops
 pub record IsSegment (s : SegmentHead) : Type 0 where
-  pub least : 2 ≤ s.count
-  pub most : s.count ≤ 16
+  pub least : MIN_SEGMENT_HOPS ≤ s.count
+  pub most : s.count ≤ MAX_SEGMENT_HOPS
   pub ts_path : s.ts_path < 2 ^ 32
 
 pub record IsHop (h : HopHead) : Type 0 where
   pub exp : h.exp < 2 ^ 8
   pub inn : h.inn < 2 ^ 16
   pub out : h.out < 2 ^ 16
-  pub link : length h.link ≡ 8
+  pub link : length h.link ≡ LINK_LEN
+
+-- one to three segments, each with 2 to 16 hops, and 32 hops in all at most
+pub record AreSegments (segments : List SegmentHead) : Type 0 where
+  pub some_segment : 1 ≤ length segments
+  pub few_segments : length segments ≤ MAX_SEGMENTS
+  pub least : All (λ s. MIN_SEGMENT_HOPS ≤ s.count) segments
+  pub most : All (λ s. s.count ≤ MAX_SEGMENT_HOPS) segments
+  pub few_hops : hops_of segments ≤ MAX_HOPS
 
 -- one to three segments, whose hops are 32 at most
 pub record IsRoute (r : Route) : Type 0 where
   pub some_segment : 1 ≤ length r.segments
-  pub few_segments : length r.segments ≤ 3
+  pub few_segments : length r.segments ≤ MAX_SEGMENTS
   pub segments : All IsSegment r.segments
   pub counted : hops_of r.segments ≡ length r.hops
-  pub few_hops : length r.hops ≤ 32
+  pub few_hops : length r.hops ≤ MAX_HOPS
   pub hops : All IsHop r.hops
 
 -- each part is within the limits of the layout
@@ -100,9 +116,9 @@ pub record IsPacket (p : Contents) : Type 0 where
   pub current : p.current ≤ hop_count p
   pub counted : length p.fields ≡ hop_count p
   pub fields : All (λ v. length v ≡ width_of p.first) p.fields
-  pub dest_length : length p.dest_field ≡ 16
-  pub untagged : is_tagged p.first ≡ false → p.dest_field ≡ replicate 16 0
-  pub payload : length p.payload ≤ 8192
+  pub dest_length : length p.dest_field ≡ DEST_LEN
+  pub untagged : is_tagged p.first ≡ false → p.dest_field ≡ replicate DEST_LEN 0
+  pub payload : length p.payload ≤ MAX_PAYLOAD
 
 -- the parts that are lists of bytes hold bytes
 pub record HoldsBytes (p : Contents) : Type 0 where
@@ -124,3 +140,19 @@ with_dest_field p v = record p { dest_field = v }
 -- n hops on
 unfoldable pub advanced : Contents → ℕ → Contents
 advanced p n = record p { current = p.current + n }
+
+-- ---- a packet without fields
+
+-- a packet at its first hop, with zeros in the place of each field and of the destination field
+unfoldable pub unfilled : ℕ → HostId → HostId → ℕ → Route → List ℕ → Contents
+unfilled first src dst ts route payload = record {
+  first = first;
+  current = 0;
+  src = src;
+  dst = dst;
+  ts = ts;
+  route = route;
+  fields = replicate (length route.hops) (replicate (width_of first) 0);
+  dest_field = replicate DEST_LEN 0;
+  payload = payload;
+}

@@ -1,3 +1,4 @@
+-- Private: serves proofs of this crate alone; no public contract cites it.
 -- The parts of a decoded packet, each as it is read from bytes.
 use Rattle.std.specs.Prelude.{ℕ, List, drop, map}
 use Rattle.std.specs.List.{range_with_len}
@@ -10,6 +11,7 @@ use Rattle.epic_layout.specs.Pieces.{byte, number}
 use Rattle.epic_layout.specs.Contents.{as_field}
 use Rattle.epic_layout.specs.Layout.{segments_in, segment_at, hop_at, field_at, host_at, dest_field_in, header_len_in}
 use Rattle.epic_layout.specs.Laws.{hops_before}
+use Rattle.epic_layout.specs.declared.wire.TheConstants.{SEGMENTS_AT, CURRENT_AT, SRC_AS_AT, DST_AS_AT, SRC_HOST_AT, DST_HOST_AT, TS_AT}
 
 unfoldable pub packet_hop_at : List ℕ → ℕ → PacketHop
 packet_hop_at bytes j = record {
@@ -28,16 +30,16 @@ packet_segment_at bytes i = record {
 }
 
 unfoldable pub packet_segments_in : List ℕ → List PacketSegment
-packet_segments_in bytes = map (packet_segment_at bytes) (range_with_len 0 (byte bytes 6))
+packet_segments_in bytes = map (packet_segment_at bytes) (range_with_len 0 (byte bytes SEGMENTS_AT))
 
 unfoldable pub packet_in : List ℕ → Packet
 packet_in bytes = record {
   version = version_of (byte bytes 0);
   level = level_of (byte bytes 0);
-  current = byte bytes 7;
-  src = host_at bytes 8 24;
-  dst = host_at bytes 16 28;
-  ts = number w64 bytes 32;
+  current = byte bytes CURRENT_AT;
+  src = host_at bytes SRC_AS_AT SRC_HOST_AT;
+  dst = host_at bytes DST_AS_AT DST_HOST_AT;
+  ts = number w64 bytes TS_AT;
   segments = packet_segments_in bytes;
   dest_field = dest_field_in bytes;
   payload = drop (header_len_in bytes) bytes;

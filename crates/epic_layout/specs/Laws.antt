@@ -1,10 +1,11 @@
 -- What holds of all packets and of all bytes.
-use Rattle.std.specs.Prelude.{◌≡◌, ℕ, ◌+◌, ◌-◌, ◌<◌, false, List, length, take, slice_index_or, Some}
+use Rattle.std.specs.Prelude.{◌≡◌, ℕ, ◌+◌, ◌-◌, ◌<◌, true, false, List, length, take, slice_index_or, Some}
+use Rattle.std.specs.List.{All}
 use Rattle.std.specs.Bool.{MatchBool}
 use Rattle.epic_layout.specs.declared.head.SegmentHead.{SegmentHead}
 use Rattle.epic_layout.specs.declared.head.HopPlace.{HopPlace}
-use Rattle.epic_layout.specs.Route.{Route, no_segment, hops_of, place, position, is_first, successor, ingress, egress, body}
-use Rattle.epic_layout.specs.Contents.{Contents, IsBytes, IsRoute, IsPacket, HoldsBytes}
+use Rattle.epic_layout.specs.Route.{Route, no_segment, hops_of, place, position, is_first, is_last, successor, ingress, egress, body}
+use Rattle.epic_layout.specs.Contents.{Contents, IsBytes, IsSegment, IsRoute, IsPacket, HoldsBytes, header_len}
 use Rattle.epic_layout.specs.Spelling.{path_bytes, spelling, Spells}
 
 -- ---- spellings
@@ -21,6 +22,10 @@ SpellingsAreOne =
 -- bytes spell at most one packet
 abbrev pub PacketsAreOne : Type 0
 PacketsAreOne = (bytes : List ℕ) (p q : Contents) → Spells bytes p → Spells bytes q → p ≡ q
+
+-- a packet is spelled in as many bytes as its header and its payload have
+abbrev pub SpellingsHaveLengths : Type 0
+SpellingsHaveLengths = (p : Contents) → IsPacket p → length (spelling p) ≡ header_len p + length p.payload
 
 -- ---- path bytes
 
@@ -68,3 +73,22 @@ abbrev pub NeighboursFollow : Type 0
 NeighboursFollow =
     (segments : List SegmentHead) (j : ℕ) → j < hops_of segments → is_first (place segments j) ≡ false
     → (0 < j) × MatchBool (place segments j).head.against (Follows segments j (j - 1)) (Follows segments (j - 1) j)
+
+-- the hop of the same segment whose position is one greater comes next, and is a hop of the packet
+abbrev pub SuccessorsFollow : Type 0
+SuccessorsFollow =
+    (segments : List SegmentHead) (j k : ℕ) → j < hops_of segments → successor (place segments j) j ≡ Some k
+    → (k < hops_of segments) × Follows segments j k
+
+-- where segments begin and end among the hops of a packet
+pub record SegmentsJoin (segments : List SegmentHead) : Type 0 where
+  -- behind the last hop of a segment stands the first of another, if any
+  pub behind_last : (j : ℕ) → is_last (place segments j) ≡ true → is_first (place segments (j + 1)) ≡ true
+  -- behind another hop stands one of its segment, which isn't the first
+  pub behind_other : (j : ℕ) → j < hops_of segments → is_last (place segments j) ≡ false
+      → (j + 1 < hops_of segments) × (is_first (place segments (j + 1)) ≡ false)
+  -- the last hop of all is the last of its segment
+  pub last_of_all : (j : ℕ) → j + 1 ≡ hops_of segments → is_last (place segments j) ≡ true
+  -- the first hop of a segment isn't its last, since each has two hops at least
+  pub first_not_last : All IsSegment segments → (j : ℕ) → j < hops_of segments → is_first (place segments j) ≡ true
+      → is_last (place segments j) ≡ false

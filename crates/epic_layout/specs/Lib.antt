@@ -1,9 +1,12 @@
-pub mod Pieces
-pub mod Route
 pub mod Contents
+pub mod Decoding
+pub mod Laws
 pub mod Layout
+pub mod Packets
+pub mod PathRoutes
+pub mod Pieces
+pub mod Reading
+pub mod Route
 pub mod Sound
 pub mod Spelling
-pub mod Laws
-pub mod Packets
-pub mod Decoding
+pub mod Updates

@@ -14,6 +14,7 @@ use Rattle.epic_layout.specs.declared.decoding.DecodeError.{DecodeError}
 use Rattle.epic_layout.specs.declared.decoding.DecodeError.TheVariants.{Layout, OutOfMemory}
 use Rattle.epic_layout.specs.Contents.{Contents, IsHop, field_bytes}
 use Rattle.epic_layout.specs.Spelling.{hop_bytes}
+use Rattle.epic_layout.specs.declared.wire.TheConstants.{MAX_SEGMENTS, MIN_SEGMENT_HOPS, MAX_SEGMENT_HOPS, MAX_HOPS, MAX_PAYLOAD}
 
 abbrev pub segment_head_of : PacketSegment → SegmentHead
 segment_head_of s = record { against = s.against; count = length s.hops.items; ts_path = s.ts_path }
@@ -55,13 +56,13 @@ is_version version level = version == 1 || (version == 2 && is_tagged (first_byt
 
 -- a segment has 2 to 16 hops
 unfoldable pub is_segment : PacketSegment → Bool
-is_segment s = nat_le 2 (length s.hops.items) && nat_le (length s.hops.items) 16
+is_segment s = nat_le MIN_SEGMENT_HOPS (length s.hops.items) && nat_le (length s.hops.items) MAX_SEGMENT_HOPS
 
 -- one to three segments, of 32 hops at most
 unfoldable pub are_segments : List PacketSegment → Bool
 are_segments segments =
-    (nat_le 1 (length segments) && nat_le (length segments) 3)
-    && (list_all is_segment segments && nat_le (length (all_hops segments)) 32)
+    (nat_le 1 (length segments) && nat_le (length segments) MAX_SEGMENTS)
+    && (list_all is_segment segments && nat_le (length (all_hops segments)) MAX_HOPS)
 
 abbrev pub are_zeros : List ℕ → Bool
 are_zeros bytes = list_all (λ b. b == 0) bytes
@@ -79,7 +80,7 @@ is_valid p =
     && (are_segments p.segments
     && (are_fields (width_of (first_byte p.version p.level)) (all_hops p.segments)
     && (nat_le p.current (length (all_hops p.segments))
-    && ((is_tagged (first_byte p.version p.level) || are_zeros p.dest_field) && nat_le (length p.payload) 8192))))
+    && ((is_tagged (first_byte p.version p.level) || are_zeros p.dest_field) && nat_le (length p.payload) MAX_PAYLOAD))))
 
 -- an answer of decoding: the packet within the limits that says this, or the fault, or want of memory
 abbrev pub Decodes : Result Packet DecodeError → Result Contents LayoutError → Type 0

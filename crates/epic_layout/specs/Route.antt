@@ -6,6 +6,7 @@ use Rattle.epic_num.specs.declared.hop.Body.{Body}
 use Rattle.epic_layout.specs.declared.head.SegmentHead.{SegmentHead}
 use Rattle.epic_layout.specs.declared.head.HopHead.{HopHead}
 use Rattle.epic_layout.specs.declared.head.HopPlace.{HopPlace}
+use Rattle.epic_layout.specs.declared.wire.TheConstants.{LINK_LEN}
 
 -- what the path bytes of a packet say: its segments in travel order, and all its hops in travel order
 pub record Route : Type 0 where
@@ -18,7 +19,7 @@ no_segment = record { against = false; count = 0; ts_path = 0 }
 
 -- what stands in the place of a hop that isn't there
 abbrev pub no_hop : HopHead
-no_hop = record { exp = 0; inn = 0; out = 0; link = replicate 8 0 }
+no_hop = record { exp = 0; inn = 0; out = 0; link = replicate LINK_LEN 0 }
 
 -- the number of hops of all segments
 unfoldable pub hops_of : List SegmentHead → ℕ

@@ -28,15 +28,20 @@ unfoldable pub hop_with_field : HopHead × List ℕ → List ℕ
 hop_with_field h = hop_bytes h.0 ++ h.1
 
 -- version and level, no flags, lengths of header and payload, number of segments, current hop
-unfoldable pub size_bytes : Contents → List ℕ
-size_bytes p =
-    p.first ∷ 0 ∷ (u16_bytes (header_len p) ++ (u16_bytes (length p.payload) ++ length p.route.segments ∷ p.current ∷ []))
+abbrev pub sizes_bytes : ℕ → ℕ → ℕ → ℕ → ℕ → List ℕ
+sizes_bytes first header payload segments current =
+    first ∷ 0 ∷ (u16_bytes header ++ (u16_bytes payload ++ segments ∷ current ∷ []))
 
 -- source AS, destination AS, source host, destination host, timestamp
+abbrev pub ends_bytes : HostId → HostId → ℕ → List ℕ
+ends_bytes src dst ts =
+    u64_bytes src.asn.0 ++ (u64_bytes dst.asn.0 ++ (u32_bytes src.host ++ (u32_bytes dst.host ++ u64_bytes ts)))
+
+unfoldable pub size_bytes : Contents → List ℕ
+size_bytes p = sizes_bytes p.first (header_len p) (length p.payload) (length p.route.segments) p.current
+
 unfoldable pub end_bytes : Contents → List ℕ
-end_bytes p =
-    u64_bytes p.src.asn.0
-    ++ (u64_bytes p.dst.asn.0 ++ (u32_bytes p.src.host ++ (u32_bytes p.dst.host ++ u64_bytes p.ts)))
+end_bytes p = ends_bytes p.src p.dst p.ts
 
 -- levels 0 and 1 spell no destination field
 unfoldable pub dest_bytes : Contents → List ℕ

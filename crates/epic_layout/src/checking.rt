@@ -1,13 +1,18 @@
-ghost use Rattle.std.specs.Prelude.{◌≡◌, ◌+◌, ◌*◌, ◌≤◌, ◌||◌, nat_lt, length};
-ghost use Rattle.std.specs.Int.{w16};
+//! Whether bytes are a packet.
+ghost use Rattle.std.specs.Prelude.{◌≡◌, ◌+◌, ◌≤◌, ◌||◌, nat_lt, length, None, Ok};
 ghost use Rattle.epic_num.specs.Levels as levels;
 ghost use Rattle.epic_layout.specs.Pieces.{byte, number};
-ghost use Rattle.epic_layout.specs.Contents.{segment_offset, dest_len, shape};
-ghost use Rattle.epic_layout.specs.Layout.{any_segment, is_reserved, is_miscounted, hops_in, parse, fault, or_fault};
+ghost use Rattle.epic_layout.specs.Contents.{segment_offset};
+ghost use Rattle.epic_layout.specs.Layout.{any_segment, is_reserved, is_miscounted, hops_in, fault, checked};
 
 use crate::Shape;
 use crate::read::u16_at;
-use epic_num::{LayoutError, is_first_byte, is_tagged, level_of, version_of, width_of};
+use crate::wire::{
+    CURRENT_AT, FIXED_LEN, FLAGS_AT, HEADER_LEN_AT, MAX_HOPS, MAX_PAYLOAD, MAX_SEGMENT_HOPS,
+    MAX_SEGMENTS, MIN_SEGMENT_HOPS, PAYLOAD_LEN_AT, SEGMENT_COUNT_AT, SEGMENT_LEN,
+    SEGMENT_ZEROS_AT, SEGMENTS_AT, header_len_of, segment_start,
+};
+use epic_num::{LayoutError, is_first_byte, level_of, version_of};
 
 /// What the segment headers tell of.
 #[derive(Clone, Copy)]
@@ -19,25 +24,25 @@ struct Heads {
 
 /// The direction that begins at `at` is neither 0 nor 1, or a reserved byte of its header isn't 0.
 fn has_reserved(bytes: &[u8], i: u8) -> bool
-    requires { segment_offset i + 8 ≤ length bytes.now }
+    requires { segment_offset i + SEGMENT_LEN ≤ length bytes.now }
     ensures { result ≡ is_reserved bytes.now i }
 {
-    let at = 40 + 8 * i as usize;
-    bytes[at] > 1 || bytes[at + 2] != 0 || bytes[at + 3] != 0
+    let at = segment_start(i);
+    bytes[at] > 1 || bytes[at + SEGMENT_ZEROS_AT] != 0 || bytes[at + (SEGMENT_ZEROS_AT + 1)] != 0
 }
 
-/// A segment has 2 to 16 hops.
+/// A segment has too few or too many hops.
 fn has_no_segment_length(hops: u8) -> bool
-    ensures { result ≡ (nat_lt hops 2 || nat_lt 16 hops) }
+    ensures { result ≡ (nat_lt hops MIN_SEGMENT_HOPS || nat_lt MAX_SEGMENT_HOPS hops) }
 {
-    hops < 2 || hops > 16
+    hops < MIN_SEGMENT_HOPS || hops > MAX_SEGMENT_HOPS
 }
 
 /// Reads the segment headers, each once.
 #[tactic(auto, using(crate::proofs::Ranges::range_steps), unfolding(crate::specs::Layout::any_segment, crate::specs::Layout::segments_in, crate::specs::Layout::segment_at, crate::specs::Route::hops_of))]
 fn heads_of(bytes: &[u8], count: u8) -> Heads
-    requires told { byte bytes.now 6 ≡ count }
-    requires few { count ≤ 3 }
+    requires told { byte bytes.now SEGMENTS_AT ≡ count }
+    requires few { count ≤ MAX_SEGMENTS }
     requires there { segment_offset count ≤ length bytes.now }
     ensures reserved { result.is_reserved ≡ any_segment (is_reserved bytes.now) bytes.now }
     ensures counted { result.is_miscounted ≡ any_segment (is_miscounted bytes.now) bytes.now }
@@ -47,7 +52,7 @@ fn heads_of(bytes: &[u8], count: u8) -> Heads
     let mut is_miscounted = false;
     let mut hops = 0u16;
     for i in 0..count {
-        let here = bytes[40 + 8 * i as usize + 1];
+        let here = bytes[segment_start(i) + SEGMENT_COUNT_AT];
         is_reserved |= has_reserved(bytes, i);
         is_miscounted |= has_no_segment_length(here);
         hops += here as u16;
@@ -59,57 +64,45 @@ fn heads_of(bytes: &[u8], count: u8) -> Heads
     }
 }
 
-/// The bytes before the payload of a packet with this first byte and these numbers of segments and hops.
-#[tactic(auto, unfolding(crate::specs::Contents::dest_len))]
-pub(crate) fn header_len_of(first: u8, segments: u8, hops: u16) -> u16
-    requires few_segments { segments ≤ 3 }
-    requires few_hops { hops ≤ 48 }
-    ensures { result ≡ segment_offset segments + (13 + levels.width_of first) * hops + dest_len first }
-{
-    let hop_len = 13 + width_of(first) as u16;
-    let dest_len = if is_tagged(first) { 16 } else { 0 };
-    40 + 8 * segments as u16 + hop_len * hops + dest_len
-}
-
 /// The sizes that a packet's header tells of, or the first fault of bytes that are no packet.
 #[tactic(auto, using(crate::proofs::Shapes::shape_parse), unfolding(crate::specs::Layout::tests, crate::specs::Layout::header_len_in, crate::specs::Layout::hop_offset))]
 pub fn check(bytes: &[u8]) -> Result<Shape, LayoutError>
-    ensures { result ≡ or_fault (fault levels.is_first_byte bytes.now) (shape (parse bytes.now)) }
+    ensures { result ≡ checked bytes.now }
 {
-    if bytes.len() < 40 {
+    if bytes.len() < FIXED_LEN {
         return Err(LayoutError::Short);
     }
     let first = bytes[0];
     if !is_first_byte(first) {
         return Err(LayoutError::Version);
     }
-    if bytes[1] != 0 {
+    if bytes[FLAGS_AT] != 0 {
         return Err(LayoutError::Flags);
     }
-    let segments = bytes[6];
-    if segments < 1 || segments > 3 {
+    let segments = bytes[SEGMENTS_AT];
+    if segments < 1 || segments > MAX_SEGMENTS {
         return Err(LayoutError::SegmentCount);
     }
-    if bytes.len() < 40 + 8 * segments as usize {
+    if bytes.len() < segment_start(segments) {
         return Err(LayoutError::Short);
     }
     let heads = heads_of(bytes, segments);
     if heads.is_reserved {
         return Err(LayoutError::Reserved);
     }
-    if heads.is_miscounted || heads.hops > 32 {
+    if heads.is_miscounted || heads.hops > MAX_HOPS as u16 {
         return Err(LayoutError::HopCount);
     }
     let header = header_len_of(first, segments, heads.hops);
-    if u16_at(bytes, 2) != header || bytes.len() < header as usize {
+    if u16_at(bytes, HEADER_LEN_AT) != header || bytes.len() < header as usize {
         return Err(LayoutError::HeaderLength);
     }
-    let payload = u16_at(bytes, 4);
-    if payload > 8192 || header as usize + payload as usize != bytes.len() {
+    let payload = u16_at(bytes, PAYLOAD_LEN_AT);
+    if payload > MAX_PAYLOAD || header as usize + payload as usize != bytes.len() {
         return Err(LayoutError::PayloadLength);
     }
     let hops = heads.hops as u8;
-    if bytes[7] > hops {
+    if bytes[CURRENT_AT] > hops {
         return Err(LayoutError::CurrentHop);
     }
     Ok(Shape {
@@ -120,4 +113,37 @@ pub fn check(bytes: &[u8]) -> Result<Shape, LayoutError>
         header,
         payload,
     })
+}
+
+/// How many hops the segments have whose headers these are.
+#[tactic(auto, using(crate::proofs::Ranges::range_steps), unfolding(crate::specs::Layout::segments_in, crate::specs::Layout::segment_at, crate::specs::Route::hops_of))]
+fn hops_of(bytes: &[u8], count: u8) -> u16
+    requires told { byte bytes.now SEGMENTS_AT ≡ count }
+    requires few { count ≤ MAX_SEGMENTS }
+    requires there { segment_offset count ≤ length bytes.now }
+    ensures { result ≡ hops_in bytes.now }
+{
+    let mut hops = 0u16;
+    for i in 0..count {
+        hops += bytes[segment_start(i) + SEGMENT_COUNT_AT] as u16;
+    }
+    hops
+}
+
+/// The sizes of bytes that are known to be a packet, which are not checked again.
+#[tactic(auto, using(crate::proofs::Shapes::sizes_known))]
+pub fn shape_of(bytes: &[u8]) -> Shape
+    requires { fault levels.is_first_byte bytes.now ≡ None }
+    ensures { Ok result ≡ checked bytes.now }
+{
+    let first = bytes[0];
+    let segments = bytes[SEGMENTS_AT];
+    Shape {
+        version: version_of(first),
+        level: level_of(first),
+        segments,
+        hops: hops_of(bytes, segments) as u8,
+        header: u16_at(bytes, HEADER_LEN_AT),
+        payload: u16_at(bytes, PAYLOAD_LEN_AT),
+    }
 }

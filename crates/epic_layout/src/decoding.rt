@@ -1,18 +1,24 @@
+//! Packets as values, decoded from bytes.
 ghost use Rattle.std.specs.Prelude.{◌≡◌, ◌+◌, ◌-◌, ◌<◌, ◌≤◌, ◌++◌, IfOk, length, map, replicate};
 ghost use Rattle.std.specs.List.{range_with_len};
 ghost use Rattle.epic_num.specs.Levels as levels;
+ghost use Rattle.epic_num.specs.Tables.{unless};
 ghost use Rattle.epic_layout.specs.Pieces.{byte, piece};
 ghost use Rattle.epic_layout.specs.Contents as contents;
-ghost use Rattle.epic_layout.specs.Layout.{parse, fault, or_fault, segments_in, hops_in, hop_len, hop_offset, field_at, host_at, dest_field_in, header_len_in};
+ghost use Rattle.epic_layout.specs.Layout.{parse, fault, segments_in, hops_in, hop_len, hop_offset, field_at, dest_field_in, header_len_in};
 ghost use Rattle.epic_layout.specs.Decoding.{packet_hop_at, packet_segment_at, packet_segments_in, packet_in};
 ghost use Rattle.epic_layout.specs.Laws.{hops_before};
 ghost use Rattle.epic_layout.specs.Packets.{Decodes};
 ghost use Rattle.epic_layout.specs.Sound.{IsSound};
 
-use crate::read::{bytes_at, hop_head_at, segment_head_at, u32_at, u64_at};
+use crate::read::{bytes_at, hop_head_at, host_at, segment_head_at, u64_at};
+use crate::wire::{
+    CURRENT_AT, DEST_LEN, DST_AS_AT, DST_HOST_AT, HOP_LEN, SEGMENTS_AT, SRC_AS_AT, SRC_HOST_AT,
+    TS_AT, row_len, segment_start,
+};
 use crate::{Packet, PacketHop, PacketSegment, Segments, Shape, check};
 use arrayvec::ArrayVec;
-use epic_num::{AsId, Bytes, Field, HostId, LayoutError, is_tagged, width_of};
+use epic_num::{Bytes, Field, LayoutError, is_tagged, width_of};
 use std::alloc::{AllocError, Global};
 
 /// Why bytes weren't decoded.
@@ -32,7 +38,7 @@ fn hop_at(bytes: &[u8], hop: u8) -> usize
     ensures offset { result ≡ hop_offset bytes.now hop }
     ensures within { result + hop_len bytes.now ≤ length bytes.now }
 {
-    40 + 8 * bytes[6] as usize + (13 + width_of(bytes[0]) as usize) * hop as usize
+    segment_start(bytes[SEGMENTS_AT]) + row_len(bytes[0]) * hop as usize
 }
 
 /// Up to six bytes, with zeros after them.
@@ -74,7 +80,7 @@ fn packet_hop(bytes: &[u8], hop: u8) -> PacketHop
         inn: head.inn,
         out: head.out,
         link,
-        field: field_from(bytes, at + 13, width_of(bytes[0])),
+        field: field_from(bytes, at + HOP_LEN, width_of(bytes[0])),
     }
 }
 
@@ -97,7 +103,7 @@ fn hops_from(bytes: &[u8], from: u8, count: u8) -> ArrayVec<PacketHop, 16>
 #[tactic(auto, using(crate::proofs::Decoded::segment_parts))]
 fn segment_from(bytes: &[u8], i: u8, passed: u8) -> PacketSegment
     requires sound { IsSound bytes.now }
-    requires there { i < byte bytes.now 6 }
+    requires there { i < byte bytes.now SEGMENTS_AT }
     requires passed { passed ≡ hops_before (segments_in bytes.now) i }
     ensures { result ≡ packet_segment_at bytes.now i }
 {
@@ -118,36 +124,24 @@ fn segments_from(alloc: Global, bytes: &[u8]) -> Result<Vec<PacketSegment>, Allo
 {
     let mut segments = Vec::new(alloc);
     let mut passed = 0u8;
-    for i in 0..bytes[6] {
+    for i in 0..bytes[SEGMENTS_AT] {
         segments.push(segment_from(bytes, i, passed))?;
         passed += segment_head_at(bytes, i).count;
     }
     Ok(segments)
 }
 
-/// A host: its AS at one place, its number at another.
-fn host(bytes: &[u8], asn: usize, number: usize) -> HostId
-    requires asn { asn + 8 ≤ length bytes.now }
-    requires number { number + 4 ≤ length bytes.now }
-    ensures { result ≡ host_at bytes.now asn number }
-{
-    HostId {
-        asn: AsId(u64_at(bytes, asn)),
-        host: u32_at(bytes, number),
-    }
-}
-
 /// The destination field, and zeros at levels 0 and 1.
 #[tactic(auto, using(crate::proofs::Fields::dest_fields))]
-fn dest_field(bytes: &[u8], header: u16) -> [u8; 16]
+fn dest_field(bytes: &[u8], header: u16) -> [u8; DEST_LEN]
     requires sound { IsSound bytes.now }
     requires header { header ≡ header_len_in bytes.now }
     ensures { result ≡ dest_field_in bytes.now }
 {
     if is_tagged(bytes[0]) {
-        bytes_at(bytes, header as usize - 16)
+        bytes_at(bytes, header as usize - DEST_LEN)
     } else {
-        [0; 16]
+        [0; DEST_LEN]
     }
 }
 
@@ -164,10 +158,10 @@ fn packet_from(alloc: Global, bytes: &[u8], shape: Shape) -> Result<Packet, Allo
     Ok(Packet {
         version: shape.version,
         level: shape.level,
-        current: bytes[7],
-        src: host(bytes, 8, 24),
-        dst: host(bytes, 16, 28),
-        ts: u64_at(bytes, 32),
+        current: bytes[CURRENT_AT],
+        src: host_at(bytes, SRC_AS_AT, SRC_HOST_AT),
+        dst: host_at(bytes, DST_AS_AT, DST_HOST_AT),
+        ts: u64_at(bytes, TS_AT),
         segments: Segments::from_vec(segments),
         dest_field,
         payload: Bytes::from_vec(payload),
@@ -177,7 +171,7 @@ fn packet_from(alloc: Global, bytes: &[u8], shape: Shape) -> Result<Packet, Allo
 /// The packet of bytes without a fault, or their first fault.
 #[tactic(auto, using(crate::proofs::Soundness::checked))]
 pub fn decode(alloc: Global, bytes: &[u8]) -> Result<Packet, DecodeError>
-    ensures { Decodes result (or_fault (fault levels.is_first_byte bytes.now) (parse bytes.now)) }
+    ensures { Decodes result (unless (fault levels.is_first_byte bytes.now) (parse bytes.now)) }
 {
     let shape = match check(bytes) {
         Ok(shape) => shape,

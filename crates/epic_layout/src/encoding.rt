@@ -1,3 +1,4 @@
+//! Packets as values, spelled in bytes.
 ghost use Rattle.std.specs.Prelude.{◌≡◌, ◌<◌, ◌≤◌, ◌^◌, [], ◌++◌, if◌then◌else◌, IsTrue, IfOk, OnOk, length, map};
 ghost use Rattle.std.specs.List.{All, flat_map};
 ghost use Rattle.epic_num.specs.BigEndian.{u16_bytes, u32_bytes, u64_bytes};
@@ -8,102 +9,51 @@ ghost use Rattle.epic_layout.specs.Packets as packets;
 ghost use Rattle.epic_layout.specs.Packets.{contents_of, segment_head_of, hop_head_of, all_hops};
 ghost use Rattle.epic_layout.specs.Spelling.{segment_bytes, hop_bytes, size_bytes, end_bytes, dest_bytes, spelling, Spells};
 
-use crate::checking::header_len_of;
+use crate::putting::{buffer, put, put_dest, put_ends, put_hop, put_segment, put_sizes};
 use crate::valid::hop_total;
-use crate::{Packet, PacketHop, PacketSegment};
-use epic_num::{OutOfMemory, first_byte, is_tagged};
+use crate::wire::header_len_of;
+use crate::{HopHead, Packet, PacketHop, PacketSegment, SegmentHead};
+use epic_num::{OutOfMemory, first_byte};
 use std::alloc::Global;
-
-/// No bytes, with room for some.
-fn buffer(alloc: Global, room: usize) -> Result<Vec<u8>, OutOfMemory>
-    ensures { IfOk result (λ out. out.items ≡ []) }
-{
-    Vec::with_capacity(alloc, room).map_err(|_| OutOfMemory)
-}
-
-/// Appends bytes.
-fn put(out: &mut Vec<u8>, part: &[u8]) -> Result<(), OutOfMemory>
-    ensures { OnOk result (out.new.items ≡ out.old.items ++ part.now) }
-{
-    out.extend_from_slice(part).map_err(|_| OutOfMemory)
-}
-
-#[tactic(auto, unfolding(epic_num::specs::BigEndian::u16_bytes))]
-fn put_u16(out: &mut Vec<u8>, n: u16) -> Result<(), OutOfMemory>
-    ensures { OnOk result (out.new.items ≡ out.old.items ++ u16_bytes n) }
-{
-    put(out, &n.to_be_bytes())
-}
-
-#[tactic(auto, unfolding(epic_num::specs::BigEndian::u32_bytes))]
-fn put_u32(out: &mut Vec<u8>, n: u32) -> Result<(), OutOfMemory>
-    ensures { OnOk result (out.new.items ≡ out.old.items ++ u32_bytes n) }
-{
-    put(out, &n.to_be_bytes())
-}
-
-#[tactic(auto, unfolding(epic_num::specs::BigEndian::u64_bytes))]
-fn put_u64(out: &mut Vec<u8>, n: u64) -> Result<(), OutOfMemory>
-    ensures { OnOk result (out.new.items ≡ out.old.items ++ u64_bytes n) }
-{
-    put(out, &n.to_be_bytes())
-}
 
 /// Version and level, sizes, current hop.
 #[tactic(auto, unfolding(crate::specs::Spelling::size_bytes, crate::specs::Packets::contents_of))]
-fn put_sizes(out: &mut Vec<u8>, packet: &Packet, header: u16) -> Result<(), OutOfMemory>
+fn put_packet_sizes(out: &mut Vec<u8>, packet: &Packet, header: u16) -> Result<(), OutOfMemory>
     requires header { header ≡ header_len (contents_of packet.now) }
     requires payload { length packet.now.payload < 2 ^ 16 }
     requires segments { length packet.now.segments < 2 ^ 8 }
     ensures { OnOk result (out.new.items ≡ out.old.items ++ size_bytes (contents_of packet.now)) }
 {
-    put(out, &[first_byte(packet.version, packet.level), 0])?;
-    put_u16(out, header)?;
-    put_u16(out, packet.payload.as_slice().len() as u16)?;
-    put(
-        out,
-        &[packet.segments.as_slice().len() as u8, packet.current],
-    )
+    let first = first_byte(packet.version, packet.level);
+    let payload = packet.payload.as_slice().len() as u16;
+    let segments = packet.segments.as_slice().len() as u8;
+    put_sizes(out, first, header, payload, segments, packet.current)
 }
 
-/// Source, destination, timestamp.
-#[tactic(auto, unfolding(crate::specs::Spelling::end_bytes, crate::specs::Packets::contents_of))]
-fn put_ends(out: &mut Vec<u8>, packet: &Packet) -> Result<(), OutOfMemory>
-    ensures put { OnOk result (out.new.items ≡ out.old.items ++ end_bytes (contents_of packet.now)) }
-    ensures src { OnOk result (IsHost packet.now.src) }
-    ensures dst { OnOk result (IsHost packet.now.dst) }
-    ensures ts { OnOk result (packet.now.ts < 2 ^ 64) }
+/// The header of a segment.
+fn segment_head(segment: &PacketSegment) -> SegmentHead
+    ensures { result ≡ segment_head_of segment.now }
 {
-    put_u64(out, packet.src.asn.0)?;
-    put_u64(out, packet.dst.asn.0)?;
-    put_u32(out, packet.src.host)?;
-    put_u32(out, packet.dst.host)?;
-    put_u64(out, packet.ts)
-}
-
-/// A segment's header.
-#[tactic(auto, unfolding(crate::specs::Spelling::segment_bytes))]
-fn put_segment(out: &mut Vec<u8>, segment: &PacketSegment) -> Result<(), OutOfMemory>
-    ensures put { OnOk result (out.new.items ≡ out.old.items ++ segment_bytes (segment_head_of segment.now)) }
-    ensures fits { OnOk result (segment.now.ts_path < 2 ^ 32) }
-{
-    let direction = if segment.against { 1 } else { 0 };
-    put(out, &[direction, segment.hops.len() as u8, 0, 0])?;
-    put_u32(out, segment.ts_path)
+    SegmentHead {
+        against: segment.against,
+        count: segment.hops.len() as u8,
+        ts_path: segment.ts_path,
+    }
 }
 
 /// A hop with its field.
-#[tactic(auto, unfolding(crate::specs::Spelling::hop_bytes))]
-fn put_hop(out: &mut Vec<u8>, hop: &PacketHop) -> Result<(), OutOfMemory>
+fn put_row(out: &mut Vec<u8>, hop: &PacketHop) -> Result<(), OutOfMemory>
     requires { hop.now.field.width ≤ 6 }
     ensures put { OnOk result (out.new.items ≡ out.old.items ++ (hop_bytes (hop_head_of hop.now) ++ field_bytes hop.now.field)) }
     ensures fits { OnOk result (packets.FitsRow hop.now) }
 {
-    put(out, &[hop.exp])?;
-    put_u16(out, hop.inn)?;
-    put_u16(out, hop.out)?;
-    put(out, &hop.link)?;
-    put(out, &hop.field.bytes[..hop.field.width as usize])
+    let head = HopHead {
+        exp: hop.exp,
+        inn: hop.inn,
+        out: hop.out,
+        link: hop.link,
+    };
+    put_hop(out, &head, &hop.field.bytes[..hop.field.width as usize])
 }
 
 /// The headers of all segments.
@@ -112,7 +62,7 @@ fn put_segments(out: &mut Vec<u8>, segments: &[PacketSegment]) -> Result<(), Out
     ensures fits { OnOk result (All (λ s. s.ts_path < 2 ^ 32) segments.now) }
 {
     for segment in segments {
-        put_segment(out, segment)?;
+        put_segment(out, segment_head(segment))?;
     }
     Ok(())
 }
@@ -124,7 +74,7 @@ fn put_hops(out: &mut Vec<u8>, hops: &[PacketHop]) -> Result<(), OutOfMemory>
     ensures fits { OnOk result (All packets.FitsRow hops.now) }
 {
     for hop in hops {
-        put_hop(out, hop)?;
+        put_row(out, hop)?;
     }
     Ok(())
 }
@@ -141,18 +91,6 @@ fn put_all_hops(out: &mut Vec<u8>, segments: &[PacketSegment]) -> Result<(), Out
     Ok(())
 }
 
-/// The destination field of levels 2 and 3.
-fn put_dest(out: &mut Vec<u8>, first: u8, field: &[u8; 16]) -> Result<(), OutOfMemory>
-    ensures put { OnOk result (out.new.items ≡ out.old.items ++ (if levels.is_tagged first then field.now else [])) }
-    ensures size { length field.now ≡ 16 }
-{
-    if is_tagged(first) {
-        put(out, field)
-    } else {
-        Ok(())
-    }
-}
-
 /// The one spelling of a packet within the limits.
 #[tactic(auto, using(crate::proofs::Encoded::valid_limits))]
 pub fn encode(alloc: Global, packet: &Packet) -> Result<Vec<u8>, OutOfMemory>
@@ -165,8 +103,8 @@ pub fn encode(alloc: Global, packet: &Packet) -> Result<Vec<u8>, OutOfMemory>
     let header = header_len_of(first, segments.len() as u8, hop_total(segments) as u16);
     let payload = packet.payload.as_slice();
     let mut out = buffer(alloc, header as usize + payload.len())?;
-    put_sizes(&mut out, packet, header)?;
-    put_ends(&mut out, packet)?;
+    put_packet_sizes(&mut out, packet, header)?;
+    put_ends(&mut out, packet.src, packet.dst, packet.ts)?;
     put_segments(&mut out, segments)?;
     put_all_hops(&mut out, segments)?;
     put_dest(&mut out, first, &packet.dest_field)?;

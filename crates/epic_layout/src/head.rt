@@ -1,3 +1,5 @@
+//! The header of a segment, a hop without its field, and the place of a hop.
+
 /// The header of a segment.
 #[derive(Clone, Copy, Debug, PartialEq, Eq)]
 pub struct SegmentHead {

@@ -1,3 +1,4 @@
+//! Packets as values.
 use arrayvec::ArrayVec;
 use epic_num::{Bytes, Field, HostId, Level};
 use std::marker::Model;

@@ -1,12 +1,17 @@
 //! Parts of a packet's bytes, read where they lie.
-ghost use Rattle.std.specs.Prelude.{◌≡◌, ◌+◌, ◌*◌, ◌≤◌, length};
+ghost use Rattle.std.specs.Prelude.{◌≡◌, ◌+◌, ◌≤◌, length};
 ghost use Rattle.std.specs.Int.{w16, w32, w64};
 ghost use Rattle.epic_layout.specs.Pieces.{piece, number};
 ghost use Rattle.epic_layout.specs.Contents.{segment_offset};
 ghost use Rattle.epic_layout.specs.Layout.{segment_at};
 ghost use Rattle.epic_layout.specs.Layout as layout;
 
+use crate::wire::{
+    HOP_INN_AT, HOP_LEN, HOP_LINK_AT, HOP_OUT_AT, SEGMENT_COUNT_AT, SEGMENT_LEN, SEGMENT_TS_AT,
+    segment_start,
+};
 use crate::{HopHead, SegmentHead};
+use epic_num::{AsId, HostId};
 
 /// The `N` bytes from `at` on.
 pub fn bytes_at<const N: usize>(bytes: &[u8], at: usize) -> [u8; N]
@@ -45,30 +50,42 @@ pub fn u64_at(bytes: &[u8], at: usize) -> u64
     u64::from_be_bytes(bytes_at(bytes, at))
 }
 
-/// The header of segment `i`.
+/// A host: its AS at one place, its number at another.
+pub fn host_at(bytes: &[u8], asn: usize, number: usize) -> HostId
+    requires asn { asn + 8 ≤ length bytes.now }
+    requires number { number + 4 ≤ length bytes.now }
+    ensures { result ≡ layout.host_at bytes.now asn number }
+{
+    HostId {
+        asn: AsId(u64_at(bytes, asn)),
+        host: u32_at(bytes, number),
+    }
+}
+
+/// The header of segment `i`, from 0.
 #[tactic(auto, unfolding(crate::specs::Layout::segment_at))]
 pub fn segment_head_at(bytes: &[u8], i: u8) -> SegmentHead
-    requires { segment_offset i + 8 ≤ length bytes.now }
+    requires { segment_offset i + SEGMENT_LEN ≤ length bytes.now }
     ensures { result ≡ segment_at bytes.now i }
 {
-    let at = 40 + 8 * i as usize;
+    let at = segment_start(i);
     SegmentHead {
         against: bytes[at] == 1,
-        count: bytes[at + 1],
-        ts_path: u32_at(bytes, at + 4),
+        count: bytes[at + SEGMENT_COUNT_AT],
+        ts_path: u32_at(bytes, at + SEGMENT_TS_AT),
     }
 }
 
 /// The hop that begins at `at`.
 #[tactic(auto, unfolding(crate::specs::Layout::hop_head_at))]
 pub fn hop_head_at(bytes: &[u8], at: usize) -> HopHead
-    requires { at + 13 ≤ length bytes.now }
+    requires { at + HOP_LEN ≤ length bytes.now }
     ensures { result ≡ layout.hop_head_at bytes.now at }
 {
     HopHead {
         exp: bytes[at],
-        inn: u16_at(bytes, at + 1),
-        out: u16_at(bytes, at + 3),
-        link: bytes_at(bytes, at + 5),
+        inn: u16_at(bytes, at + HOP_INN_AT),
+        out: u16_at(bytes, at + HOP_OUT_AT),
+        link: bytes_at(bytes, at + HOP_LINK_AT),
     }
 }

@@ -1,3 +1,4 @@
+//! The sizes of a packet.
 use epic_num::Level;
 
 /// The sizes that a packet's header tells of.

@@ -1,6 +1,7 @@
 //! Packets that another program spelled, and the faults of changed ones.
 use crate::{
-    DecodeError, Packet, PacketHop, PacketSegment, Segments, check, decode, encode, is_valid,
+    DecodeError, HopHead, Packet, PacketHop, PacketSegment, SegmentHead, Segments, check, decode,
+    encode, is_valid, shape_of, unfilled_packet,
 };
 use arrayvec::ArrayVec;
 use epic_num::{AsId, Bytes, Field, HostId, LayoutError, Level};
@@ -248,5 +249,53 @@ fn encodes_valid_packets(rt: HostRuntime) -> Result<(), Fail> {
         let packet = packet(rt.alloc(), version, level, counts)?;
         assert_eq!(rt; spelled_len(rt.alloc(), &packet)?, len, "{counts:?}");
     }
+    Ok(())
+}
+
+/// A packet of level 3 in version 2 with one segment of two hops, as it is written before its fields are made.
+const UNFILLED: [u8; 107] = [
+    0xf3, 0x00, 0x00, 0x66, 0x00, 0x05, 0x01, 0x00, 0x00, 0x01, 0xff, 0x00, 0x00, 0x00, 0x01, 0x12,
+    0x00, 0x01, 0xff, 0x00, 0x00, 0x00, 0x01, 0x10, 0x00, 0x00, 0x00, 0x01, 0x00, 0x00, 0x00, 0x03,
+    0x00, 0x06, 0x0a, 0x24, 0x18, 0x1e, 0x40, 0x00, 0x01, 0x02, 0x00, 0x00, 0x65, 0x53, 0xf1, 0x00,
+    0x3f, 0x00, 0x01, 0x00, 0x00, 0x5f, 0xc8, 0x56, 0x7c, 0xf2, 0x7d, 0x68, 0x59, 0x00, 0x00, 0x00,
+    0x00, 0x00, 0x00, 0x40, 0x00, 0x00, 0x00, 0x02, 0x00, 0x00, 0x00, 0x00, 0x00, 0x00, 0x00, 0x00,
+    0x00, 0x00, 0x00, 0x00, 0x00, 0x00, 0x00, 0x00, 0x00, 0x00, 0x00, 0x00, 0x00, 0x00, 0x00, 0x00,
+    0x00, 0x00, 0x00, 0x00, 0x00, 0x00, 0x68, 0x65, 0x6c, 0x6c, 0x6f,
+];
+
+#[test]
+#[tactic(auto, unfolding(epic_num::specs::Levels::is_first_byte, crate::specs::Route::hops_of))]
+fn writes_a_packet_without_fields(rt: HostRuntime) -> Result<(), Fail> {
+    let src = HostId {
+        asn: AsId(0x0001_ff00_0000_0112),
+        host: 1,
+    };
+    let dst = HostId {
+        asn: AsId(0x0001_ff00_0000_0110),
+        host: 3,
+    };
+    let segments = [SegmentHead {
+        against: true,
+        count: 2,
+        ts_path: 1_700_000_000,
+    }];
+    let hops = [
+        HopHead {
+            exp: 63,
+            inn: 1,
+            out: 0,
+            link: [0x5f, 0xc8, 0x56, 0x7c, 0xf2, 0x7d, 0x68, 0x59],
+        },
+        HopHead {
+            exp: 64,
+            inn: 0,
+            out: 2,
+            link: [0; 8],
+        },
+    ];
+    let ts = 0x0006_0a24_181e_4000;
+    let bytes = unfilled_packet(rt.alloc(), 0xf3, src, dst, ts, &segments, &hops, b"hello")?;
+    assert_eq!(rt; bytes.as_slice(), UNFILLED.as_slice());
+    assert_eq!(rt; check(&bytes), Ok(shape_of(&bytes)));
     Ok(())
 }

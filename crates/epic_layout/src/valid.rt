@@ -3,6 +3,7 @@ ghost use Rattle.std.specs.Prelude.{◌≡◌, ◌≤◌, IsTrue, length};
 ghost use Rattle.std.specs.List.{list_all};
 ghost use Rattle.epic_layout.specs.Packets as packets;
 
+use crate::wire::{MAX_HOPS, MAX_PAYLOAD, MAX_SEGMENT_HOPS, MAX_SEGMENTS, MIN_SEGMENT_HOPS};
 use crate::{Packet, PacketHop, PacketSegment};
 use epic_num::{Field, Level, first_byte, is_tagged, width_of};
 
@@ -14,19 +15,19 @@ fn is_version(version: u8, level: Level) -> bool
     version == 1 || version == 2 && is_tagged(first_byte(version, level))
 }
 
-/// A segment has 2 to 16 hops.
+/// The segment has as many hops as a segment may have.
 #[tactic(auto, unfolding(crate::specs::Packets::is_segment))]
 fn is_segment(segment: &PacketSegment) -> bool
     ensures { result ≡ packets.is_segment segment.now }
 {
     let hops = segment.hops.len();
-    2 <= hops && hops <= 16
+    MIN_SEGMENT_HOPS as usize <= hops && hops <= MAX_SEGMENT_HOPS as usize
 }
 
 /// How many hops the segments have in all.
 #[tactic(auto, using(crate::proofs::AllHops::hops_steps), unfolding(crate::specs::Packets::all_hops))]
 pub(crate) fn hop_total(segments: &[PacketSegment]) -> usize
-    requires { length segments.now ≤ 3 }
+    requires { length segments.now ≤ MAX_SEGMENTS }
     ensures { result ≡ length (packets.all_hops segments.now) }
 {
     let mut total = 0;
@@ -46,15 +47,15 @@ fn all_fit(segments: &[PacketSegment]) -> bool
 #[tactic(auto, unfolding(crate::specs::Packets::are_segments))]
 fn are_segments(segments: &[PacketSegment]) -> bool
     ensures fit { result ≡ packets.are_segments segments.now }
-    ensures few { IsTrue result → length segments.now ≤ 3 }
+    ensures few { IsTrue result → length segments.now ≤ MAX_SEGMENTS }
 {
-    if segments.is_empty() || segments.len() > 3 {
+    if segments.is_empty() || segments.len() > MAX_SEGMENTS as usize {
         return false;
     }
     if !all_fit(segments) {
         return false;
     }
-    hop_total(segments) <= 32
+    hop_total(segments) <= MAX_HOPS as usize
 }
 
 fn are_zeros(bytes: &[u8]) -> bool
@@ -107,5 +108,5 @@ pub fn is_valid(packet: &Packet) -> bool
         && are_all_fields(width_of(first), segments)
         && packet.current as usize <= hop_total(segments)
         && (is_tagged(first) || are_zeros(&packet.dest_field))
-        && packet.payload.as_slice().len() <= 8192
+        && packet.payload.as_slice().len() <= MAX_PAYLOAD as usize
 }

@@ -1,3 +1,4 @@
+//! The sizes of a packet, and where its hops lie.
 ghost use Rattle.std.specs.Prelude.{◌≡◌, ◌<◌, ◌+◌, ◌≤◌, length};
 ghost use Rattle.epic_layout.specs.Contents.{shape};
 ghost use Rattle.epic_layout.specs.Layout.{parse, hops_in, hop_len, hop_offset};
@@ -5,7 +6,7 @@ ghost use Rattle.epic_layout.specs.Sound.{IsSound};
 ghost use Rattle.epic_view.specs.View.{IsView};
 
 use epic_layout::Shape;
-use epic_num::width_of;
+use epic_layout::wire::{SEGMENTS_AT, row_len, segment_start};
 
 /// The sizes of a packet, and where its parts lie, computed once.
 #[derive(Clone, Copy)]
@@ -26,8 +27,8 @@ pub fn frame_of(bytes: &[u8], checked: Shape) -> Frame
 {
     Frame {
         shape: checked,
-        hops_at: 40 + 8 * bytes[6] as usize,
-        hop_len: 13 + width_of(bytes[0]) as usize,
+        hops_at: segment_start(bytes[SEGMENTS_AT]),
+        hop_len: row_len(bytes[0]),
     }
 }
 

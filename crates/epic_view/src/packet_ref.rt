@@ -1,23 +1,24 @@
-ghost use Rattle.std.specs.Prelude.{◌≡◌, ◌<◌, ◌↔◌, IsTrue, length, slice_index_or};
-ghost use Rattle.epic_num.specs.Levels.{is_first_byte};
+//! A packet that is read where its bytes lie.
+ghost use Rattle.std.specs.Prelude.{◌≡◌, ◌<◌, ◌↔◌, Ok, IsTrue, length, slice_index_or};
+ghost use Rattle.epic_num.specs.Levels.{width_of, is_first_byte};
+ghost use Rattle.epic_num.specs.Tables.{unless};
 ghost use Rattle.epic_layout.specs.Contents as contents;
-ghost use Rattle.epic_layout.specs.Contents.{IsBytes, IsPacket, hop_count, as_field};
+ghost use Rattle.epic_layout.specs.Contents.{IsPacket, hop_count, as_field, field_bytes};
 ghost use Rattle.epic_layout.specs.Route.{place, no_segment};
 ghost use Rattle.epic_layout.specs.Spelling.{segment_bytes, hop_bytes, path_bytes};
 ghost use Rattle.epic_layout.specs.Route as route;
-ghost use Rattle.epic_layout.specs.Layout.{parse, fault, or_fault};
+ghost use Rattle.epic_layout.specs.Layout.{parse, fault, checked};
 ghost use Rattle.epic_view.specs.View.{IsView};
 
 use crate::frame::{Frame, frame_of};
 use crate::{places, reading};
-use epic_layout::{Shape, check, u64_at};
+use epic_layout::wire::{
+    CURRENT_AT, DEST_LEN, DST_AS_AT, DST_HOST_AT, HOP_LEN, SEGMENT_LEN, SRC_AS_AT, SRC_HOST_AT,
+    TS_AT,
+};
+use epic_layout::{Shape, check, host_at, u64_at};
 use epic_num::{Body, Field, HostId, LayoutError};
 use std::marker::Model;
-
-/// What a slice of bytes holds are bytes.
-fn are_bytes(_bytes: &[u8])
-    ensures { IsBytes _bytes.now }
-{}
 
 /// A packet that is read where its bytes lie. Contracts see it as what the bytes say.
 #[derive(Drop)]
@@ -43,17 +44,27 @@ impl<'a> PacketRef<'a> {
     /// The packet of bytes without a fault, or their first fault.
     #[tactic(auto, using(epic_layout::proofs::Soundness::checked))]
     pub fn look(bytes: &'a [u8]) -> Result<PacketRef<'a>, LayoutError>
-        ensures { result ≡ or_fault (fault is_first_byte bytes.now) (parse bytes.now) }
+        ensures { result ≡ unless (fault is_first_byte bytes.now) (parse bytes.now) }
     {
         let shape = check(bytes)?;
-        Ok(PacketRef {
+        Ok(PacketRef::of(bytes, shape))
+    }
+
+    /// The packet of bytes that `check` found to have this shape, or that are known to have it, as `shape_of` tells. They
+    /// are not checked again.
+    #[tactic(auto, using(epic_layout::proofs::Soundness::checked))]
+    pub fn of(bytes: &'a [u8], shape: Shape) -> PacketRef<'a>
+        requires { Ok shape ≡ checked bytes.now }
+        ensures { result ≡ parse bytes.now }
+    {
+        PacketRef {
             bytes,
             frame: frame_of(bytes, shape),
-        })
+        }
     }
 
     /// The view of bytes whose frame is known.
-    pub(crate) fn of(bytes: &'a [u8], frame: Frame) -> PacketRef<'a>
+    pub(crate) fn framed(bytes: &'a [u8], frame: Frame) -> PacketRef<'a>
         requires { IsView bytes.now frame }
         ensures { result ≡ parse bytes.now }
     {
@@ -74,7 +85,7 @@ impl<'a> PacketRef<'a> {
         ensures segments { result.segments ≡ length self.now.route.segments }
         ensures hops { result.hops ≡ hop_count self.now }
     {
-        are_bytes(self.bytes);
+        reading::are_bytes(self.bytes);
         self.frame.shape
     }
 
@@ -82,26 +93,26 @@ impl<'a> PacketRef<'a> {
     pub fn current(&self) -> u8
         ensures { result ≡ self.now.current }
     {
-        self.bytes[7]
+        self.bytes[CURRENT_AT]
     }
 
     pub fn src(&self) -> HostId
         ensures { result ≡ self.now.src }
     {
-        reading::host(self.bytes, 8, 24)
+        host_at(self.bytes, SRC_AS_AT, SRC_HOST_AT)
     }
 
     pub fn dst(&self) -> HostId
         ensures { result ≡ self.now.dst }
     {
-        reading::host(self.bytes, 16, 28)
+        host_at(self.bytes, DST_AS_AT, DST_HOST_AT)
     }
 
     /// The timestamp, in microseconds.
     pub fn ts(&self) -> u64
         ensures { result ≡ self.now.ts }
     {
-        u64_at(self.bytes, 32)
+        u64_at(self.bytes, TS_AT)
     }
 
     /// The hop as its AS authenticates it.
@@ -115,7 +126,9 @@ impl<'a> PacketRef<'a> {
     /// The hop's field: 3 bytes in version 1, 6 in version 2.
     pub fn field(&self, hop: u8) -> Field
         requires { hop < hop_count self.now }
-        ensures { result ≡ as_field (contents.field self.now hop) }
+        ensures value { result ≡ as_field (contents.field self.now hop) }
+        ensures width { result.width ≡ width_of self.now.first }
+        ensures bytes { field_bytes result ≡ contents.field self.now hop }
     {
         reading::field(self.bytes, self.frame, hop)
     }
@@ -175,16 +188,16 @@ impl<'a> PacketRef<'a> {
         reading::same_path(self.bytes, self.frame, other.bytes, other.frame)
     }
 
-    /// The 8 bytes of a segment's header, which stand in the path bytes.
-    pub fn segment_head(&self, segment: u8) -> [u8; 8]
+    /// The bytes of a segment's header, from 0, which stand in the path bytes.
+    pub fn segment_head(&self, segment: u8) -> [u8; SEGMENT_LEN]
         requires { segment < length self.now.route.segments }
         ensures { result ≡ segment_bytes (slice_index_or self.now.route.segments segment no_segment) }
     {
         reading::segment_head(self.bytes, self.frame, segment)
     }
 
-    /// The 13 bytes of a hop without its field, which stand in the path bytes.
-    pub fn hop_head(&self, hop: u8) -> [u8; 13]
+    /// The bytes of a hop without its field, which stand in the path bytes.
+    pub fn hop_head(&self, hop: u8) -> [u8; HOP_LEN]
         requires { hop < hop_count self.now }
         ensures { result ≡ hop_bytes (route.hop self.now.route hop) }
     {
@@ -192,7 +205,7 @@ impl<'a> PacketRef<'a> {
     }
 
     /// The destination field, and zeros at levels 0 and 1.
-    pub fn dest_field(&self) -> [u8; 16]
+    pub fn dest_field(&self) -> [u8; DEST_LEN]
         ensures { result ≡ self.now.dest_field }
     {
         reading::dest_field(self.bytes, self.frame)

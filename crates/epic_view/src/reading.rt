@@ -1,9 +1,10 @@
 //! The parts of a packet's bytes.
 ghost use Rattle.std.specs.Prelude.{◌≡◌, ◌+◌, ◌<◌, ◌≤◌, ◌↔◌, IsTrue, length};
+ghost use Rattle.epic_num.specs.Levels.{width_of};
 ghost use Rattle.epic_layout.specs.Route as route;
 ghost use Rattle.epic_layout.specs.Contents as contents;
 ghost use Rattle.epic_layout.specs.Layout as layout;
-ghost use Rattle.epic_layout.specs.Layout.{segments_in, segment_at, hops_in, host_at, field_at, dest_field_in};
+ghost use Rattle.epic_layout.specs.Layout.{segments_in, segment_at, hops_in, field_at, dest_field_in};
 ghost use Rattle.epic_layout.specs.Pieces.{byte, piece};
 ghost use Rattle.epic_layout.specs.Spelling.{segment_bytes, hop_bytes, path_bytes};
 ghost use Rattle.epic_layout.specs.Sound.{IsSound};
@@ -11,20 +12,16 @@ ghost use Rattle.epic_view.specs.View.{IsView};
 
 use crate::frame::{Frame, hop_at};
 use crate::places::{place_at, position};
-use epic_layout::{bytes_at, hop_head_at, u16_at, u32_at, u64_at};
-use epic_num::{AsId, Body, Field, HostId, is_tagged};
+use epic_layout::wire::{
+    DEST_LEN, FIXED_LEN, HOP_INN_AT, HOP_LEN, HOP_OUT_AT, SEGMENT_LEN, SEGMENTS_AT, segment_start,
+};
+use epic_layout::{bytes_at, hop_head_at, u16_at};
+use epic_num::{Body, Field, is_tagged};
 
-/// A host: its AS at one place, its number at another.
-pub fn host(bytes: &[u8], asn: usize, number: usize) -> HostId
-    requires asn { asn + 8 ≤ length bytes.now }
-    requires number { number + 4 ≤ length bytes.now }
-    ensures { result ≡ host_at bytes.now asn number }
-{
-    HostId {
-        asn: AsId(u64_at(bytes, asn)),
-        host: u32_at(bytes, number),
-    }
-}
+/// What a slice of bytes holds are bytes.
+pub fn are_bytes(_bytes: &[u8])
+    ensures { contents.IsBytes _bytes.now }
+{}
 
 /// The hop as its AS authenticates it.
 pub fn body(bytes: &[u8], frame: Frame, hop: u8) -> Body
@@ -46,14 +43,16 @@ pub fn body(bytes: &[u8], frame: Frame, hop: u8) -> Body
 }
 
 /// The hop's field.
-#[tactic(auto, using(epic_layout::proofs::Fields::fields))]
+#[tactic(auto, using(epic_layout::proofs::Fields::fields, epic_layout::proofs::Fields::field_parts))]
 pub fn field(bytes: &[u8], frame: Frame, hop: u8) -> Field
     requires view { IsView bytes.now frame }
     requires there { hop < hops_in bytes.now }
-    ensures { result ≡ contents.as_field (field_at bytes.now hop) }
+    ensures value { result ≡ contents.as_field (field_at bytes.now hop) }
+    ensures width { result.width ≡ width_of (byte bytes.now 0) }
+    ensures bytes { contents.field_bytes result ≡ field_at bytes.now hop }
 {
-    let at = hop_at(bytes, frame, hop) + 13;
-    if frame.hop_len == 16 {
+    let at = hop_at(bytes, frame, hop) + HOP_LEN;
+    if frame.hop_len == HOP_LEN + 3 {
         Field {
             bytes: [bytes[at], bytes[at + 1], bytes[at + 2], 0, 0, 0],
             width: 3,
@@ -76,9 +75,9 @@ pub fn ingress(bytes: &[u8], frame: Frame, hop: u8) -> u16
 {
     let at = hop_at(bytes, frame, hop);
     if place_at(bytes, frame, hop).head.against {
-        u16_at(bytes, at + 3)
+        u16_at(bytes, at + HOP_OUT_AT)
     } else {
-        u16_at(bytes, at + 1)
+        u16_at(bytes, at + HOP_INN_AT)
     }
 }
 
@@ -91,36 +90,36 @@ pub fn egress(bytes: &[u8], frame: Frame, hop: u8) -> u16
 {
     let at = hop_at(bytes, frame, hop);
     if place_at(bytes, frame, hop).head.against {
-        u16_at(bytes, at + 1)
+        u16_at(bytes, at + HOP_INN_AT)
     } else {
-        u16_at(bytes, at + 3)
+        u16_at(bytes, at + HOP_OUT_AT)
     }
 }
 
 /// The destination field, and zeros at levels 0 and 1.
 #[tactic(auto, using(epic_layout::proofs::Fields::dest_fields))]
-pub fn dest_field(bytes: &[u8], frame: Frame) -> [u8; 16]
+pub fn dest_field(bytes: &[u8], frame: Frame) -> [u8; DEST_LEN]
     requires { IsView bytes.now frame }
     ensures { result ≡ dest_field_in bytes.now }
 {
     if is_tagged(bytes[0]) {
-        bytes_at(bytes, frame.shape.header as usize - 16)
+        bytes_at(bytes, frame.shape.header as usize - DEST_LEN)
     } else {
-        [0; 16]
+        [0; DEST_LEN]
     }
 }
 
-/// The 8 bytes of a segment's header.
-pub fn segment_head(bytes: &[u8], frame: Frame, segment: u8) -> [u8; 8]
+/// The bytes of a segment's header.
+pub fn segment_head(bytes: &[u8], frame: Frame, segment: u8) -> [u8; SEGMENT_LEN]
     requires view { IsView bytes.now frame }
-    requires there { segment < byte bytes.now 6 }
+    requires there { segment < byte bytes.now SEGMENTS_AT }
     ensures { result ≡ segment_bytes (segment_at bytes.now segment) }
 {
-    bytes_at(bytes, 40 + 8 * segment as usize)
+    bytes_at(bytes, segment_start(segment))
 }
 
-/// The first 13 bytes of a hop, which are all but its field.
-pub fn hop_head(bytes: &[u8], frame: Frame, hop: u8) -> [u8; 13]
+/// The bytes of a hop without its field.
+pub fn hop_head(bytes: &[u8], frame: Frame, hop: u8) -> [u8; HOP_LEN]
     requires view { IsView bytes.now frame }
     requires there { hop < hops_in bytes.now }
     ensures { result ≡ hop_bytes (layout.hop_at bytes.now hop) }
@@ -149,13 +148,14 @@ pub fn same_path(left: &[u8], left_frame: Frame, right: &[u8], right_frame: Fram
     if left_frame.shape.hops != right_frame.shape.hops {
         return false;
     }
-    if !same_piece(left, 40, right, 40, 8 * left_frame.shape.segments as usize) {
+    let heads = SEGMENT_LEN * left_frame.shape.segments as usize;
+    if !same_piece(left, FIXED_LEN, right, FIXED_LEN, heads) {
         return false;
     }
     for hop in 0..left_frame.shape.hops {
         let at = hop_at(left, left_frame, hop);
         let other = hop_at(right, right_frame, hop);
-        if !same_piece(left, at, right, other, 13) {
+        if !same_piece(left, at, right, other, HOP_LEN) {
             return false;
         }
     }

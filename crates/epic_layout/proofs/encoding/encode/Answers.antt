@@ -2,7 +2,7 @@ use Rattle.std.proofs.Common.{◌≡◌, [], ◌++◌, ◌∙◌, ap, sym, subst
 use Rattle.std.specs.List.{All, flat_map}
 use Rattle.epic_num.specs.Levels.{is_tagged}
 use Rattle.epic_layout.specs.Packets.{segment_head_of, row_of, contents_of, FitsRow}
-use Rattle.epic_layout.specs.Spelling.{segment_bytes, size_bytes, spelling, Spells}
+use Rattle.epic_layout.specs.Spelling.{segment_bytes, size_bytes, end_bytes, spelling, Spells}
 use Rattle.epic_layout.proofs.Encoded.{FitsTypes, valid_narrow, valid_parts, encoded, IsPacket-contents}
 use Rattle.epic_layout.proofs.Faultless.{Spells-spelling}
 use Rattle.epic_layout.proofs.encoding.encode.Goals as goal
@@ -13,11 +13,12 @@ put_all_hops-requires c = subst (λ ss. All (λ s. All (λ h. h.field.width ≤ 
 
 -- what was written
 written : (c : In_ok-put) → c.put.new.out.items ≡ spelling (contents_of c.args.packet.now)
+unfolding end_bytes contents_of
 written c =
     let p = c.args.packet.now in
     let segments = c.as_slice-segments.ensures in
     encoded p _ _ _ _ _ _
-    (c.in_ok-put_sizes.ensures ∙ ap (λ o. o ++ size_bytes (contents_of p)) c.in_ok-out.ensures)
+    (c.in_ok-put_packet_sizes.ensures ∙ ap (λ o. o ++ size_bytes (contents_of p)) c.in_ok-out.ensures)
     c.in_ok-put_ends.ensures.put
     (c.in_ok-put_segments.ensures.put ∙ ap (λ ss. c.put_ends.new.out.items ++ flat_map (λ s. segment_bytes (segment_head_of s)) ss) segments)
     (c.in_ok-put_all_hops.ensures.put ∙ ap (λ ss. c.put_segments.new.out.items ++ flat_map (λ s. flat_map row_of s.hops.items) ss) segments)

@@ -8,6 +8,6 @@ loop-hop-preserved c =
     let xs = c.args.hops.now in
     let i = c.loop-hop.hop-index in
     record {
-      put = rows_step row_of _ _ _ xs i _ c.loop-hop-test.true c.loop-hop.invariant.put c.in_ok-put_hop.ensures.put;
-      fits = All-more FitsRow xs i _ c.loop-hop-test.true c.loop-hop.invariant.fits c.in_ok-put_hop.ensures.fits;
+      put = rows_step row_of _ _ _ xs i _ c.loop-hop-test.true c.loop-hop.invariant.put c.in_ok-put_row.ensures.put;
+      fits = All-more FitsRow xs i _ c.loop-hop-test.true c.loop-hop.invariant.fits c.in_ok-put_row.ensures.fits;
     }

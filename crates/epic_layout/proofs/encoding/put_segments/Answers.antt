@@ -14,6 +14,6 @@ loop-segment-preserved c =
     let row = λ (s : PacketSegment). segment_bytes (segment_head_of s) in
     let Fits : PacketSegment → Type 0 = λ s. s.ts_path < 2 ^ 32 in
     record {
-      put = rows_step row _ _ _ xs i x c.loop-segment-test.true c.loop-segment.invariant.put (c.in_ok-put_segment.ensures.put ∙ ap (λ s. c.loop-segment.out.items ++ row s) c.segment-item.is);
-      fits = All-more Fits xs i x c.loop-segment-test.true c.loop-segment.invariant.fits (subst Fits c.segment-item.is c.in_ok-put_segment.ensures.fits);
+      put = rows_step row _ _ _ xs i x c.loop-segment-test.true c.loop-segment.invariant.put (c.in_ok-put_segment.ensures.put ∙ ap (λ h. c.loop-segment.out.items ++ segment_bytes h) c.segment_head.ensures ∙ ap (λ s. c.loop-segment.out.items ++ row s) c.segment-item.is);
+      fits = All-more Fits xs i x c.loop-segment-test.true c.loop-segment.invariant.fits (subst Fits c.segment-item.is (subst (λ h. h.ts_path < 2 ^ 32) c.segment_head.ensures c.in_ok-put_segment.ensures.fits));
     }

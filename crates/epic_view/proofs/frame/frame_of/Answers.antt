@@ -1,4 +1,3 @@
-use Rattle.std.proofs.Common.{◌+◌, refl, ap}
 use Rattle.epic_layout.proofs.Shapes.{shape_sizes}
 use Rattle.epic_view.proofs.frame.frame_of.Goals as goal
 
@@ -11,6 +10,6 @@ returns c =
       segments_is = sizes.0;
       hops_is = sizes.1;
       header_is = sizes.2;
-      hops_at_is = refl;
-      hop_len_is = ap (λ w. 13 + w) c.width_of.ensures;
+      hops_at_is = c.segment_start.ensures;
+      hop_len_is = c.row_len.ensures.value;
     }
