@@ -1,6 +1,6 @@
 -- The hops of an ended chain make a well-formed segment.
 use Rattle.std.proofs.Common.{◌≡◌, ℕ, zero, suc, ◌+◌, ◌-◌, ◌≤◌, ◌<◌, Bool, true, false, ◌&&◌, ◌||◌, not, ◌==◌, List, [], ◌∷◌, ◌++◌, length, refl, sym, ◌∙◌, ap, arith, subst, length-append, inl, inr}
-use Rattle.std.specs.Prelude.{Option, Some, None, map, nat_le, slice_get}
+use Rattle.std.specs.Prelude.{Option, Some, None, Err, Ok, if◌then◌else◌, map, nat_le, slice_get}
 use Rattle.std.specs.List.{list_any, list_all}
 use Rattle.std.specs.Option.{option_map_or}
 use Rattle.std.proofs.lemmas.Bool.{eq-eqb, eqb-true}
@@ -13,10 +13,12 @@ use Rattle.epic_num.specs.Same.{same_as}
 use Rattle.epic_num.specs.Segments.{are_placed_from, are_different, first_hop, last_hop, have_one_ts_path, are_closed, is_well_formed}
 use Rattle.epic_beacon.specs.declared.beacon.Beacon.{Beacon}
 use Rattle.epic_beacon.specs.Chained.{IsFirst, AreChained}
-use Rattle.epic_beacon.specs.Hops.{hop_of, name_of_hop, last_hops, IsSegment}
+use Rattle.epic_beacon.specs.Segments.{hop_of, name_of_hop, last_hops, segment_to, segment, IsSegment}
+use Rattle.epic_beacon.specs.declared.segment.SegmentError.TheVariants.{Unknown, NotEnded}
 use Rattle.epic_beacon.specs.Issuing.{stands_in}
+use Rattle.epic_beacon.specs.Laws.{SegmentsAreChains}
 use Rattle.epic_beacon.specs.Store.{beacon_at, issues_of}
-use Rattle.epic_beacon.proofs.Issued.{chain_there}
+use Rattle.epic_beacon.proofs.Issued.{chain_there, position_few}
 use Rattle.epic_beacon.proofs.Walked.{last_names-there, last_names-gone}
 
 -- ---- tests
@@ -246,15 +248,54 @@ row_of beacons n b chained there =
     let e : b.name.body.pos ≡ suc (b.name.body.pos - 1) = omega arith in
     subst (λ k. IsRow n b (last_hops beacons k n)) (sym e) (rows beacons chained (b.name.body.pos - 1) n b there e)
 
+last_of_row : (front : List SegHop) (y : SegHop) → last_hop (front ++ y ∷ []) ≡ Some y
+unfolding last_hop
+last_of_row front y =
+    let e = length-append front (y ∷ []) in
+    let place : length (front ++ y ∷ []) - 1 ≡ length front = omega arith in
+    ap (slice_get (front ++ y ∷ [])) place ∙ at_end front y
+
 -- the hops of an ended chain, and its kind, make its segment
-pub segment_of : (beacons : List Beacon) (n : ℕ) (b : Beacon) (s : Segment) → AreChained beacons → beacon_at beacons n ≡ Some b → b.name.body.out ≡ 0
-    → s.kind ≡ b.kind → s.hops.items ≡ last_hops beacons b.name.body.pos n → IsSegment beacons n s
-segment_of beacons n b s chained there ended kind hops = record {
-  last = b;
-  is_last = there;
-  ended = ended;
-  kind = kind;
-  hops = hops;
-  names = ap (map name_of_hop) hops ∙ (names_of beacons b.name.body.pos n ∙ sym (chain_there beacons n b there));
-  well_formed = formed_of s n b (subst (IsRow n b) (sym hops) (row_of beacons n b chained there)) (long_enough beacons n b chained there ended) ended;
-}
+ended_segment : (beacons : List Beacon) (n : ℕ) (b : Beacon) → AreChained beacons → beacon_at beacons n ≡ Some b → b.name.body.out ≡ 0
+    → IsSegment beacons n (segment_to beacons n b)
+unfolding segment_to
+ended_segment beacons n b chained there ended =
+    let row = row_of beacons n b chained there in
+    record {
+      last = b;
+      is_last = there;
+      ended = ended;
+      kind = refl;
+      names = names_of beacons b.name.body.pos n ∙ sym (chain_there beacons n b there);
+      last_is = ap last_hop row.last ∙ last_of_row row.front (hop_of n b);
+      few = let position = position_few beacons n b chained there in let count = row.count in omega arith;
+      well_formed = formed_of (segment_to beacons n b) n b row (long_enough beacons n b chained there ended) ended;
+    }
+
+-- what a segment is made of
+pub record Made (beacons : List Beacon) (n : ℕ) (s : Segment) : Type 0 where
+  pub last : Beacon
+  pub there : beacon_at beacons n ≡ Some last
+  pub ended : last.name.body.out ≡ 0
+  pub is : segment_to beacons n last ≡ s
+
+pub segment_made : (beacons : List Beacon) (n : ℕ) (s : Segment) → segment beacons n ≡ Ok s → Made beacons n s
+unfolding segment
+segment_made beacons n s h = found (beacon_at beacons n) refl h
+  where
+    ends : (b : Beacon) (t : Bool) → beacon_at beacons n ≡ Some b → (b.name.body.out == 0) ≡ t
+        → (if t then Ok (segment_to beacons n b) else Err NotEnded) ≡ Ok s → Made beacons n s
+    ends b true there last e =
+        let same : segment_to beacons n b ≡ s = cc in
+        record { last = b; there = there; ended = eqb-true b.name.body.out 0 last; is = same }
+    ends b false there last e = absurd (cc)
+
+    found : (o : Option Beacon) → beacon_at beacons n ≡ o
+        → option_map_or (λ b. if b.name.body.out == 0 then Ok (segment_to beacons n b) else Err NotEnded) o (Err Unknown) ≡ Ok s → Made beacons n s
+    found None e h = absurd (cc)
+    found (Some b) e h = ends b (b.name.body.out == 0) e refl h
+
+pub segment_is : SegmentsAreChains
+segment_is beacons n s chained h =
+    let m = segment_made beacons n s h in
+    subst (IsSegment beacons n) m.is (ended_segment beacons n m.last chained m.there m.ended)

@@ -1,20 +1,22 @@
 -- What an issued beacon is to the others.
-use Rattle.std.proofs.Common.{◌≡◌, ◌≢◌, ℕ, ◌≤◌, true, false, ◌&&◌, not, ◌==◌, List, [], ◌∷◌, refl, sym, ◌∙◌, ap, arith, subst, inl, inr}
-use Rattle.std.specs.Prelude.{Option, Some, None, option_map, is_none, IsSome, Ok, Err}
+use Rattle.std.proofs.Common.{◌≡◌, ◌≢◌, ℕ, ◌≤◌, Bool, true, false, ◌&&◌, not, ◌==◌, List, [], ◌∷◌, length, refl, sym, ◌∙◌, ap, arith, subst, inl, inr}
+use Rattle.std.specs.Prelude.{Option, Some, None, option_map, is_none, is_some, unwrap_or, IsSome, Ok, Err}
 use Rattle.std.specs.Option.{option_map_or}
-use Rattle.epic_num.specs.declared.beacon_error.BeaconError.TheVariants.{NotCore, Unknown, Ended, TooLong, Loop, UnknownInterface, WrongKind, Expired}
+use Rattle.epic_num.specs.declared.beacon_error.BeaconError.{BeaconError}
+use Rattle.epic_num.specs.declared.beacon_error.BeaconError.TheVariants.{NotCore, Unknown, Ended, TooLong, Loop, UnknownInterface, WrongKind, Expired, Duplicate, Full}
 use Rattle.epic_num.specs.declared.hop.HopName.{HopName}
 use Rattle.epic_num.specs.declared.name.AsId.{AsId}
 use Rattle.epic_num.specs.declared.segment.SegKind.TheVariants.{Core}
 use Rattle.epic_num.specs.Chains.{Issue, issue_at, last_names, chain}
 use Rattle.epic_num.specs.Moments.{is_expired}
+use Rattle.epic_num.specs.Tables.{first_row}
+use Rattle.epic_num.proofs.TableLaws.{row_passed, unless_ok}
 use Rattle.epic_topo.specs.Network.{Network, has, is_core, neighbour}
-use Rattle.epic_keys.specs.Issues.{IssuesKept}
+use Rattle.epic_fields.specs.Issues.{IssuesKept}
 use Rattle.epic_beacon.specs.declared.beacon.Beacon.{Beacon}
 use Rattle.epic_beacon.specs.Chained.{AreChained}
-use Rattle.epic_beacon.specs.Issuing.{Row, first_row, link_at, kind_by, goes_on, first_name, next_name, beacon_of, stands_in, place_rows, originate_rows, onward_rows, extend_rows, originated, extended_from, extended}
+use Rattle.epic_beacon.specs.Issuing.{Row, link_at, kind_by, goes_on, first_name, next_name, beacon_of, stands_in, twin, place_rows, originate_rows, onward_rows, extend_rows, originated, extended_from, extended}
 use Rattle.epic_beacon.specs.Store.{Store, beacon_at, issue_of, issues_of}
-use Rattle.epic_beacon.proofs.Rows.{row_passed, unless_ok}
 use Rattle.epic_beacon.proofs.Walked.{issue_at-issues_of}
 
 -- ---- issues of beacons
@@ -54,16 +56,29 @@ pub record Extended (t : Network) (s : Store) (number out exp : ℕ) (b : Beacon
   pub short : (parent.name.body.pos == 16) ≡ false
   pub apart : stands_in (next_name t s parent.name out exp).asn (chain (issues_of s.beacons) number) ≡ false
   pub linked : (not (out == 0) && is_none (link_at t (next_name t s parent.name out exp).asn out)) ≡ false
+  pub room : (length s.beacons == 65536) ≡ false
   pub is : beacon_of t (next_name t s parent.name out exp) number parent.kind ≡ b
 
-egress_tested : (t : Network) (beacons : List Beacon) (number : ℕ) (p : Beacon) (x : HopName) (now : ℕ)
+place_tested : (beacons : List Beacon) (x : HopName) (number : ℕ) → first_row (place_rows beacons x number) ≡ None → (length beacons == 65536) ≡ false
+unfolding place_rows
+place_tested beacons x number h =
+    let full : Row = (length beacons == 65536, Full) in
+    let known : Row = (is_some (twin beacons x number), Duplicate (unwrap_or (twin beacons x number) 0)) in
+    (row_passed full (first_row {X = BeaconError} []) (row_passed known (first_row (full ∷ [])) h).1).0
+
+onward_tested : (t : Network) (beacons : List Beacon) (number : ℕ) (p : Beacon) (x : HopName) (now : ℕ)
     → first_row (onward_rows t beacons number p.kind x now) ≡ None
-    → (not (x.body.out == 0) && is_none (link_at t x.asn x.body.out)) ≡ false
+    → ((not (x.body.out == 0) && is_none (link_at t x.asn x.body.out)) ≡ false) × ((length beacons == 65536) ≡ false)
 unfolding onward_rows
-egress_tested t beacons number p x now h =
-    (row_passed (not (x.body.out == 0) && is_none (link_at t x.asn x.body.out)) UnknownInterface
-    ((not (x.body.out == 0) && not (goes_on p.kind (link_at t x.asn x.body.out)), WrongKind)
-    ∷ (is_expired x.body.ts_path x.body.exp now, Expired) ∷ place_rows beacons x number) h).0
+onward_tested t beacons number p x now h =
+    let place = place_rows beacons x number in
+    let expired : Row = (is_expired x.body.ts_path x.body.exp now, Expired) in
+    let wrong : Row = (not (x.body.out == 0) && not (goes_on p.kind (link_at t x.asn x.body.out)), WrongKind) in
+    let unlinked : Row = (not (x.body.out == 0) && is_none (link_at t x.asn x.body.out), UnknownInterface) in
+    let first = row_passed unlinked (first_row (wrong ∷ expired ∷ place)) h in
+    let second = row_passed wrong (first_row (expired ∷ place)) first.1 in
+    let third = row_passed expired (first_row place) second.1 in
+    (first.0, place_tested beacons x number third.1)
 
 from_tested : (t : Network) (s : Store) (number : ℕ) (p : Beacon) (out exp now : ℕ) (b : Beacon) (x : HopName) → x ≡ next_name t s p.name out exp
     → beacon_at s.beacons number ≡ Some p → first_row (extend_rows t s number p x now) ≡ None → beacon_of t x number p.kind ≡ b
@@ -73,17 +88,19 @@ from_tested t s number p out exp now b x e there h is same =
     let onward = onward_rows t s.beacons number p.kind x now in
     let loop : Row = (stands_in x.asn (chain (issues_of s.beacons) number), Loop x.asn) in
     let long : Row = (p.name.body.pos == 16, TooLong) in
-    let first = row_passed (p.name.body.out == 0) Ended (long ∷ loop ∷ onward) h in
-    let second = row_passed (p.name.body.pos == 16) TooLong (loop ∷ onward) first.1 in
-    let third = row_passed (stands_in x.asn (chain (issues_of s.beacons) number)) (Loop x.asn) onward second.1 in
-    let fourth = egress_tested t s.beacons number p x now third.1 in
+    let ended : Row = (p.name.body.out == 0, Ended) in
+    let first = row_passed ended (first_row (long ∷ loop ∷ onward)) h in
+    let second = row_passed long (first_row (loop ∷ onward)) first.1 in
+    let third = row_passed loop (first_row onward) second.1 in
+    let fourth = onward_tested t s.beacons number p x now third.1 in
     record {
       parent = p;
       there = there;
       goes = first.0;
       short = second.0;
       apart = subst (λ y. stands_in y.asn (chain (issues_of s.beacons) number) ≡ false) e third.0;
-      linked = subst (λ y. (not (out == 0) && is_none (link_at t y.asn out)) ≡ false) e (subst (λ o. (not (o == 0) && is_none (link_at t x.asn o)) ≡ false) same fourth);
+      linked = subst (λ y. (not (out == 0) && is_none (link_at t y.asn out)) ≡ false) e (subst (λ o. (not (o == 0) && is_none (link_at t x.asn o)) ≡ false) same fourth.0);
+      room = fourth.1;
       is = subst (λ y. beacon_of t y number p.kind ≡ b) e is;
     }
 
@@ -110,23 +127,36 @@ extended_ok t s number out exp now b h = from_found t s number out exp now b (be
 
 -- a beacon that begins a chain
 pub record Originated (t : Network) (s : Store) (a : AsId) (out exp now : ℕ) (b : Beacon) : Type 0 where
+  pub core : is_core t a ≡ true
   pub linked : is_none (link_at t a out) ≡ false
+  pub room : (length s.beacons == 65536) ≡ false
   pub is : beacon_of t (first_name s a out exp now) 0 (option_map_or kind_by (link_at t a out) Core) ≡ b
 
-first_tested : (t : Network) (s : Store) (x : HopName) → first_row (originate_rows t s x) ≡ None → is_none (link_at t x.asn x.body.out) ≡ false
+isnt_not : (b : Bool) → not b ≡ false → b ≡ true
+isnt_not true h = refl
+isnt_not false h = absurd (cc)
+
+first_tested : (t : Network) (s : Store) (x : HopName) → first_row (originate_rows t s x) ≡ None
+    → (is_core t x.asn ≡ true) × (is_none (link_at t x.asn x.body.out) ≡ false) × ((length s.beacons == 65536) ≡ false)
 unfolding originate_rows
 first_tested t s x h =
     let place = place_rows s.beacons x 0 in
-    let first = row_passed (not (is_core t x.asn)) NotCore ((is_none (link_at t x.asn x.body.out), UnknownInterface) ∷ place) h in
-    (row_passed (is_none (link_at t x.asn x.body.out)) UnknownInterface place first.1).0
+    let unlinked : Row = (is_none (link_at t x.asn x.body.out), UnknownInterface) in
+    let outside : Row = (not (is_core t x.asn), NotCore) in
+    let first = row_passed outside (first_row (unlinked ∷ place)) h in
+    let second = row_passed unlinked (first_row place) first.1 in
+    (isnt_not (is_core t x.asn) first.0, second.0, place_tested s.beacons x 0 second.1)
 
-linked_first : (t : Network) (s : Store) (a : AsId) (out exp now : ℕ) → is_none (link_at t (first_name s a out exp now).asn (first_name s a out exp now).body.out) ≡ is_none (link_at t a out)
+at_first : (t : Network) (s : Store) (a : AsId) (out exp now : ℕ)
+    → let x = first_name s a out exp now in (is_core t x.asn ≡ is_core t a) × (is_none (link_at t x.asn x.body.out) ≡ is_none (link_at t a out))
 unfolding first_name
-linked_first t s a out exp now = refl
+at_first t s a out exp now = (refl, refl)
 
 pub originated_ok : (t : Network) (s : Store) (a : AsId) (out exp now : ℕ) (b : Beacon) → originated t s a out exp now ≡ Ok b → Originated t s a out exp now b
 unfolding originated
 originated_ok t s a out exp now b h =
     let x = first_name s a out exp now in
     let passed = unless_ok (first_row (originate_rows t s x)) (beacon_of t x 0 (option_map_or kind_by (link_at t a out) Core)) b h in
-    record { linked = sym (linked_first t s a out exp now) ∙ first_tested t s x passed.0; is = passed.1 }
+    let tested = first_tested t s x passed.0 in
+    let here = at_first t s a out exp now in
+    record { core = sym here.0 ∙ tested.0; linked = sym here.1 ∙ tested.1; room = tested.2; is = passed.1 }

@@ -14,7 +14,7 @@ use Rattle.epic_num.proofs.ChainLaws.{issue_at-zero, issue_at-append, issue_at-n
 use Rattle.epic_topo.specs.declared.link_kind.LinkKind.{LinkKind}
 use Rattle.epic_topo.specs.declared.link_kind.LinkKind.TheVariants.{Core as CoreLink}
 use Rattle.epic_topo.specs.Network.{Network, has, neighbour}
-use Rattle.epic_keys.specs.Issues.{IsKept, IssuesKept}
+use Rattle.epic_fields.specs.Issues.{IsKept, IssuesKept}
 use Rattle.epic_beacon.specs.declared.beacon.Beacon.{Beacon}
 use Rattle.epic_beacon.specs.Chained.{IsFirst, IsNext, IsChained, AreChained}
 use Rattle.epic_beacon.specs.Issuing.{Issues, behind, link_at, kind_by, first_name, next_name, beacon_of, stands_in, originated, extended}
@@ -30,7 +30,7 @@ some_before : {A B : Type 0} (f : A → B) (o : Option A) → is_none (option_ma
 some_before f None h = absurd (cc)
 some_before f (Some x) h = refl
 
-linked_some : (t : Network) (a : AsId) (out : ℕ) → is_none (link_at t a out) ≡ false → IsSome (neighbour t a out)
+pub linked_some : (t : Network) (a : AsId) (out : ℕ) → is_none (link_at t a out) ≡ false → IsSome (neighbour t a out)
 unfolding link_at
 linked_some t a out h = some_before (λ far. far.2) (neighbour t a out) h
 

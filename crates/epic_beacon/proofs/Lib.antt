@@ -1,9 +1,11 @@
 pub mod Chaining
 pub mod Formed
+pub mod GoingOn
 pub mod Grown
 pub mod Issued
 pub mod Keeping
 pub mod Rolled
-pub mod Rows
+pub mod Sigmas
+pub mod Told
 pub mod Walked
 pub mod Twins

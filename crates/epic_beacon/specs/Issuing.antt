@@ -1,5 +1,5 @@
 -- Which hop is issued, or why none is: a table of refusals, of which the first that applies is told.
-use Rattle.std.specs.Prelude.{◌≡◌, ◌⊎◌, ℕ, ◌+◌, ◌/◌, ◌==◌, Bool, true, false, not, ◌&&◌, if◌then◌else◌, List, [], ◌∷◌, length, replicate, Option, None, Some, option_map, is_some, is_none, unwrap_or, position, Result, Ok, Err}
+use Rattle.std.specs.Prelude.{◌≡◌, ◌⊎◌, ℕ, ◌+◌, ◌/◌, ◌==◌, Bool, true, false, not, ◌&&◌, List, [], ◌∷◌, length, replicate, Option, None, Some, option_map, is_some, is_none, unwrap_or, position, Result, Ok, Err}
 use Rattle.std.specs.List.{list_any}
 use Rattle.std.specs.Option.{option_map_or}
 use Rattle.epic_num.specs.declared.beacon_error.BeaconError.{BeaconError}
@@ -11,12 +11,13 @@ use Rattle.epic_num.specs.declared.segment.SegKind.TheVariants.{Core, Child}
 use Rattle.epic_num.specs.Chains.{chain}
 use Rattle.epic_num.specs.Moments.{is_expired}
 use Rattle.epic_num.specs.Same.{same_as}
+use Rattle.epic_num.specs.Tables.{first_row, unless}
 use Rattle.epic_topo.specs.declared.link_kind.LinkKind.{LinkKind}
 use Rattle.epic_topo.specs.declared.link_kind.LinkKind.TheVariants.{Core as CoreLink, Parent as ParentLink, Child as ChildLink}
 use Rattle.epic_topo.specs.Network.{Network, is_core, neighbour}
-use Rattle.epic_keys.specs.Tags.{sigma, link}
+use Rattle.epic_fields.specs.Tags.{sigma, link}
 use Rattle.epic_beacon.specs.declared.beacon.Beacon.{Beacon}
-use Rattle.epic_beacon.specs.Store.{Store, beacon_at, issues_of, with_beacon, generation_of}
+use Rattle.epic_beacon.specs.Store.{Store, beacon_at, issues_of, with_beacon}
 
 -- ---- links
 
@@ -46,7 +47,7 @@ goes_on _ _ = false
 unfoldable pub first_name : Store → AsId → ℕ → ℕ → ℕ → HopName
 first_name s a out exp now = record {
   asn = a;
-  generation = generation_of s.generations a;
+  generation = s.generations a;
   body = record { pos = 1; exp = exp; ts_path = now / 1000000; inn = 0; out = out; link = replicate 8 0 };
 }
 
@@ -54,7 +55,7 @@ first_name s a out exp now = record {
 unfoldable pub next_name : Network → Store → HopName → ℕ → ℕ → HopName
 next_name t s x out exp = record {
   asn = (behind t x).0;
-  generation = generation_of s.generations (behind t x).0;
+  generation = s.generations (behind t x).0;
   body = record { pos = x.body.pos + 1; exp = exp; ts_path = x.body.ts_path; inn = (behind t x).1; out = out; link = link t x };
 }
 
@@ -81,16 +82,6 @@ twin beacons x parent = option_map (λ i. i + 1) (position (is_twin x parent) be
 -- a row of the table: whether it applies, and what it tells
 abbrev pub Row : Type 0
 Row = Bool × BeaconError
-
--- what the first row that applies tells
-abbrev pub first_row : List Row → Option BeaconError
-first_row [] = None
-first_row (row ∷ rows) = if row.0 then Some row.1 else first_row rows
-
--- the beacon, unless it is refused
-abbrev pub unless : Option BeaconError → Beacon → Result Beacon BeaconError
-unless None b = Ok b
-unless (Some e) b = Err e
 
 -- every new hop is one that wasn't issued before, and there are at most 65,536
 unfoldable pub place_rows : List Beacon → HopName → ℕ → List Row

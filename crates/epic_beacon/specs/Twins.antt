@@ -1,3 +1,4 @@
+-- Private: serves proofs of this crate alone; no public contract cites it.
 -- What the map of a store holds: the number of the beacon that a hop would be a twin of.
 use Rattle.std.specs.Prelude.{◌≡◌, ℕ, List}
 use Rattle.std.specs.Ordering.{nat_cmp, ordering_then}

@@ -1,3 +1,4 @@
+//! One issued hop, and the chain that it ends.
 ghost use Rattle.std.specs.Prelude.{◌≡◌, option_map};
 ghost use Rattle.epic_num.specs.Chains.{chain, issue_at, last_names};
 ghost use Rattle.epic_beacon.specs.Issuing.{stands_in};

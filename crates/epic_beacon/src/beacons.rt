@@ -1,10 +1,11 @@
-ghost use Rattle.std.specs.Prelude.{◌≡◌, ◌≤◌, [], length, option_map};
+//! The store of issued hops.
+ghost use Rattle.std.specs.Prelude.{◌≡◌, ◌≤◌, length, option_map};
 ghost use Rattle.epic_num.specs.Chains.{issue_at};
 ghost use Rattle.epic_topo.specs.Network.{Network};
-ghost use Rattle.epic_keys.specs.Issues.{IssuesKept};
+ghost use Rattle.epic_fields.specs.Issues.{IssuesKept};
 ghost use Rattle.epic_beacon.specs.Chained.{AreChained};
 ghost use Rattle.epic_beacon.specs.Kinds.{KindsKept};
-ghost use Rattle.epic_beacon.specs.Store.{IsUnrolled, issues_of};
+ghost use Rattle.epic_beacon.specs.Store.{issues_of, no_beacons, store_of};
 
 use crate::Beacon;
 use crate::beacon::issue_at;
@@ -25,12 +26,12 @@ pub struct Beacons {
 }
 
 impl Model for Beacons {
-    ghost use Rattle.epic_beacon.specs.Store.{Store};
+    ghost use Rattle.epic_beacon.specs.Store.{Held};
     ghost use Rattle.epic_beacon.specs.Twins.{AreIndexed};
 
-    ghost Value = { Store };
+    ghost Value = { Held };
 
-    ghost view = { λ s. record { beacons = s.beacons.items; generations = s.generations.entries } };
+    ghost view = { λ s. record { beacons = s.beacons.items; entries = s.generations.entries } };
 
     ghost invariant = { λ s. AreIndexed s.twins s.beacons.items };
 }
@@ -38,8 +39,7 @@ impl Model for Beacons {
 impl Beacons {
     /// A store without issues, in which each AS has its first forwarding key. It fits every topology.
     pub fn new(alloc: Global) -> Beacons
-        ensures issues { result.beacons ≡ [] }
-        ensures generations { IsUnrolled result.generations }
+        ensures empty { store_of result ≡ no_beacons }
         ensures kept { (t : Network) → IssuesKept t (issues_of result.beacons) }
         ensures kinds { (t : Network) → KindsKept t result.beacons }
     {

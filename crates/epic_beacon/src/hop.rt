@@ -1,12 +1,12 @@
+//! New hops: their links, bodies and tags.
 ghost use Rattle.std.specs.Prelude.{◌≡◌, ◌≢◌, OnSome, ◌<◌, ◌≤◌, IsTrue, IsSome};
 ghost use Rattle.epic_topo.specs.Network.{has, neighbour};
-ghost use Rattle.epic_keys.specs.Tags.{hop_key, link, sigma};
 ghost use Rattle.epic_beacon.specs.Issuing.{beacon_of, behind, first_name, kind_by, link_at, next_name};
+ghost use Rattle.epic_beacon.specs.Store.{store_of};
 
 use crate::{Beacon, Beacons};
-use epic_fields::{authenticator, link_tag};
-use epic_keys::derive;
-use epic_num::{AsId, Body, HopName, KeyName, MAX_MOMENT, SegKind};
+use epic_fields::{link, sigma};
+use epic_num::{AsId, Body, HopName, MAX_MOMENT, SegKind};
 use epic_topo::{LinkKind, Topology};
 
 /// What the link at an interface is for the AS.
@@ -47,39 +47,6 @@ pub(crate) fn kind_by(link: LinkKind) -> SegKind
     }
 }
 
-/// The forwarding key of a hop.
-#[tactic(auto, unfolding(epic_keys::specs::Keys::owner, epic_keys::specs::Tags::hop_key))]
-fn hop_key(topo: &Topology, x: &HopName) -> [u8; 16]
-    requires { IsTrue (has topo.now x.now.asn) }
-    ensures { result ≡ hop_key topo.now x.now }
-{
-    derive(
-        topo,
-        &KeyName::Fwd {
-            a: x.asn,
-            g: x.generation,
-        },
-    )
-}
-
-/// A hop's link tag.
-#[tactic(auto, unfolding(epic_keys::specs::Tags::link, epic_fields::specs::Formulas::link_tag))]
-fn link(topo: &Topology, x: &HopName) -> [u8; 8]
-    requires { IsTrue (has topo.now x.now.asn) }
-    ensures { result ≡ link topo.now x.now }
-{
-    link_tag(&hop_key(topo, x), &x.body)
-}
-
-/// A hop's authenticator.
-#[tactic(auto, unfolding(epic_keys::specs::Tags::sigma, epic_fields::specs::Formulas::authenticator))]
-fn sigma(topo: &Topology, x: &HopName) -> [u8; 16]
-    requires { IsTrue (has topo.now x.now.asn) }
-    ensures { result ≡ sigma topo.now x.now }
-{
-    authenticator(&hop_key(topo, x), &x.body)
-}
-
 /// A hop with its authenticator.
 #[tactic(auto, unfolding(crate::specs::Issuing::beacon_of))]
 pub(crate) fn beacon_of(topo: &Topology, name: HopName, parent: u32, kind: SegKind) -> Beacon
@@ -101,7 +68,7 @@ impl Beacons {
     #[tactic(auto, unfolding(crate::specs::Issuing::first_name))]
     pub(crate) fn first_name(&self, a: AsId, out: u16, exp: u8, now: u64) -> HopName
         requires { now ≤ MAX_MOMENT }
-        ensures value { result ≡ first_name self.now a out exp now }
+        ensures value { result ≡ first_name (store_of self.now) a out exp now }
         ensures egress { result.body.out ≡ out }
     {
         HopName {
@@ -124,7 +91,7 @@ impl Beacons {
         requires known { IsTrue (has topo.now x.now.asn) }
         requires linked { IsSome (neighbour topo.now x.now.asn x.now.body.out) }
         requires room { x.now.body.pos < 255 }
-        ensures value { result ≡ next_name topo.now self.now x.now out exp }
+        ensures value { result ≡ next_name topo.now (store_of self.now) x.now out exp }
         ensures known { IsTrue (has topo.now result.asn) }
     {
         let (asn, inn) = behind(topo, x);

@@ -1,10 +1,11 @@
+//! Issues of hops: chains that are begun, and chains that go on.
 ghost use Rattle.std.specs.Prelude.{◌≡◌, ◌≢◌, ◌+◌, ◌<◌, ◌≤◌, None, length, IsTrue, IfOk, OnOk};
 ghost use Rattle.epic_topo.specs.Network.{has};
-ghost use Rattle.epic_keys.specs.Issues.{IssuesKept};
+ghost use Rattle.epic_fields.specs.Issues.{IssuesKept};
 ghost use Rattle.epic_beacon.specs.Chained.{AreChained, IsChained};
 ghost use Rattle.epic_beacon.specs.Issuing.{Issues, extended, extended_from, originated, twin};
 ghost use Rattle.epic_beacon.specs.Kinds.{KindsKept};
-ghost use Rattle.epic_beacon.specs.Store.{beacon_at, issues_of};
+ghost use Rattle.epic_beacon.specs.Store.{beacon_at, issues_of, store_of};
 
 use crate::beacon::{beacon_at, stands_in_chain};
 use crate::hop::{beacon_of, kind_by, link_at};
@@ -14,8 +15,15 @@ use epic_num::{AsId, MAX_MOMENT};
 use epic_topo::Topology;
 
 impl Beacons {
-    /// The AS `a` begins a chain at its interface `out`, with the expiry byte `exp`, at the moment `now` in microseconds.
-    /// The answer is the issue's number.
+    /// The AS `a`, which is in the topology, begins a chain at its interface `out`, with the expiry byte `exp`, at the moment
+    /// `now` in microseconds, of which the second is the segment's timestamp. The answer is the issue's number, from 1. The
+    /// store's issues were all made over this topology (`kept`, `kinds`), and stay so.
+    ///
+    /// # Errors
+    /// The first that applies (`originate_rows` in specs/Issuing): `NotCore` where the AS isn't a core AS; `UnknownInterface`
+    /// where no link is at the interface; `Duplicate` where a hop of the AS with this egress, expiry, timestamp and
+    /// generation began a chain before, by that issue's number; `Full` where there are 65,536 issues. `OutOfMemory` may be
+    /// told in place of an issue. After an error nothing has changed.
     pub fn originate(
         &mut self,
         topo: &Topology,
@@ -28,7 +36,7 @@ impl Beacons {
         requires moment { now ≤ MAX_MOMENT }
         requires kept { IssuesKept topo.now (issues_of self.old.beacons) }
         requires kinds { KindsKept topo.now self.old.beacons }
-        ensures issues { Issues self.old self.new (originated topo.now self.old a out exp now) result }
+        ensures issues { Issues (store_of self.old) (store_of self.new) (originated topo.now (store_of self.old) a out exp now) result }
         ensures kept { IssuesKept topo.now (issues_of self.new.beacons) }
         ensures kinds { KindsKept topo.now self.new.beacons }
     {
@@ -37,7 +45,16 @@ impl Beacons {
     }
 
     /// The AS behind the egress of the issue `parent` goes on from it, with the egress `out`, which is 0 where the segment
-    /// ends, and the expiry byte `exp`, at the moment `now` in microseconds. The answer is the issue's number.
+    /// ends, and the expiry byte `exp`, at the moment `now` in microseconds. The answer is the issue's number, from 1. The
+    /// store's issues were all made over this topology (`kept`, `kinds`), and stay so.
+    ///
+    /// # Errors
+    /// The first that applies (`extended` and `extend_rows` in specs/Issuing): `Unknown` where there is no such issue; `Ended`
+    /// where it has no egress; `TooLong` where it is the sixteenth of its chain; `Loop` where the AS behind it stands in the
+    /// chain already; `UnknownInterface` where no link is at an egress other than 0; `WrongKind` where that link isn't of the
+    /// chain's kind, which is core links alone or links to children alone; `Expired` where the new hop would be valid no more;
+    /// `Duplicate` where the same hop was issued behind this parent, by that issue's number; `Full` where there are 65,536
+    /// issues. `OutOfMemory` may be told in place of an issue. After an error nothing has changed.
     pub fn extend(
         &mut self,
         topo: &Topology,
@@ -49,7 +66,7 @@ impl Beacons {
         requires moment { now ≤ MAX_MOMENT }
         requires kept { IssuesKept topo.now (issues_of self.old.beacons) }
         requires kinds { KindsKept topo.now self.old.beacons }
-        ensures issues { Issues self.old self.new (extended topo.now self.old parent out exp now) result }
+        ensures issues { Issues (store_of self.old) (store_of self.new) (extended topo.now (store_of self.old) parent out exp now) result }
         ensures kept { IssuesKept topo.now (issues_of self.new.beacons) }
         ensures kinds { KindsKept topo.now self.new.beacons }
     {
@@ -62,7 +79,7 @@ impl Beacons {
         requires few { length self.old.beacons < 65536 }
         requires chained { IsChained self.old.beacons (length self.old.beacons + 1) beacon }
         requires new { twin self.old.beacons beacon.name beacon.parent ≡ None }
-        ensures { Issues self.old self.new (Ok beacon) result }
+        ensures { Issues (store_of self.old) (store_of self.new) (Ok beacon) result }
     {
         let number = self.beacons.len() as u32 + 1;
         // What wants memory comes first, and the last step wants none.
@@ -95,7 +112,7 @@ impl Beacons {
     ) -> Result<Beacon, BeaconError>
         requires known { IsTrue (has topo.now a) }
         requires moment { now ≤ MAX_MOMENT }
-        ensures value { result ≡ originated topo.now self.now a out exp now }
+        ensures value { result ≡ originated topo.now (store_of self.now) a out exp now }
         ensures leads_on { IfOk result (λ b. b.name.body.out ≢ 0) }
         ensures new { IfOk result (λ b. twin self.now.beacons b.name b.parent ≡ None) }
         ensures room { IfOk result (λ _. length self.now.beacons < 65536) }
@@ -125,7 +142,7 @@ impl Beacons {
         now: u64,
     ) -> Result<Beacon, BeaconError>
         requires kept { IssuesKept topo.now (issues_of self.now.beacons) }
-        ensures value { result ≡ extended topo.now self.now parent out exp now }
+        ensures value { result ≡ extended topo.now (store_of self.now) parent out exp now }
         ensures known { IfOk result (λ b. IsTrue (has topo.now b.name.asn)) }
         ensures new { IfOk result (λ b. twin self.now.beacons b.name b.parent ≡ None) }
         ensures room { IfOk result (λ _. length self.now.beacons < 65536) }
@@ -150,7 +167,7 @@ impl Beacons {
     ) -> Result<Beacon, BeaconError>
         requires kept { IssuesKept topo.now (issues_of self.now.beacons) }
         requires there { beacon_at self.now.beacons parent ≡ Some from.now }
-        ensures value { result ≡ extended_from topo.now self.now parent from.now out exp now }
+        ensures value { result ≡ extended_from topo.now (store_of self.now) parent from.now out exp now }
         ensures known { IfOk result (λ b. IsTrue (has topo.now b.name.asn)) }
         ensures new { IfOk result (λ b. twin self.now.beacons b.name b.parent ≡ None) }
         ensures room { IfOk result (λ _. length self.now.beacons < 65536) }

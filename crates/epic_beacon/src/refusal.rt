@@ -1,6 +1,8 @@
+//! Why a hop is not issued, row by row.
 ghost use Rattle.std.specs.Prelude.{◌≡◌, ◌<◌, None, length, IfNone};
 ghost use Rattle.epic_beacon.specs.Chained.{AreChained};
-ghost use Rattle.epic_beacon.specs.Issuing.{first_row, goes_on, onward_rows, place_rows, twin};
+ghost use Rattle.epic_num.specs.Tables.{first_row};
+ghost use Rattle.epic_beacon.specs.Issuing.{goes_on, onward_rows, place_rows, twin};
 
 use crate::hop::link_at;
 use crate::{BeaconError, Beacons};

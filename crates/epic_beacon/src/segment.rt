@@ -1,7 +1,8 @@
+//! The segments of chains that are ended.
 ghost use Rattle.std.specs.Prelude.{◌≡◌, ◌+◌, ◌≤◌, ◌++◌, Some};
 ghost use Rattle.arrayvec.specs.ArrayVec.{array_vec_len};
 ghost use Rattle.epic_beacon.specs.Chained.{AreChained};
-ghost use Rattle.epic_beacon.specs.Hops.{IsSegment, Segments, hop_of, last_hops};
+ghost use Rattle.epic_beacon.specs.Segments.{hop_of, last_hops, segment, segment_to};
 ghost use Rattle.epic_beacon.specs.Store.{beacon_at};
 
 use crate::beacon::beacon_at;
@@ -19,15 +20,19 @@ pub enum SegmentError {
 }
 
 impl Beacons {
-    /// The segment that ends with the issue of a number: the hops of its chain, which are well formed.
+    /// The segment that ends with the issue of a number: the hops of its chain, in construction order. It takes no memory.
+    ///
+    /// # Errors
+    /// `Unknown` where no issue has the number; `NotEnded` where the issue has an egress.
+    #[tactic(auto, unfolding(crate::specs::Segments::segment))]
     pub fn segment(&self, no: u32) -> Result<Segment, SegmentError>
-        ensures { Segments self.now.beacons no result }
+        ensures { result ≡ segment self.now.beacons no }
     {
         match beacon_at(&self.beacons, no) {
             None => Err(SegmentError::Unknown),
             Some(last) => {
                 if last.name.body.out == 0 {
-                    Ok(ended_segment(&self.beacons, no, &last))
+                    Ok(segment_to(&self.beacons, no, &last))
                 } else {
                     Err(SegmentError::NotEnded)
                 }
@@ -36,12 +41,12 @@ impl Beacons {
     }
 }
 
-/// The segment of the chain whose last beacon this is.
-fn ended_segment(beacons: &[Beacon], number: u32, last: &Beacon) -> Segment
+/// The hops of the chain of a beacon, and its kind.
+#[tactic(auto, unfolding(crate::specs::Segments::segment_to))]
+fn segment_to(beacons: &[Beacon], number: u32, last: &Beacon) -> Segment
     requires chained { AreChained beacons.now }
     requires there { beacon_at beacons.now number ≡ Some last.now }
-    requires ended { last.now.name.body.out ≡ 0 }
-    ensures { IsSegment beacons.now number result }
+    ensures { result ≡ segment_to beacons.now number last.now }
 {
     let mut hops = ArrayVec::new();
     push_hops(beacons, number, last.name.body.pos, &mut hops);

@@ -1,5 +1,6 @@
+//! Chains of a small topology, with tags that another program computed.
 use super::*;
-use epic_num::{AsId, Body, HopName, SegKind};
+use epic_num::{AsId, SegKind};
 use epic_topo::{Topology, read_topology};
 use std::alloc::Global;
 use std::process::Abort;
@@ -23,7 +24,7 @@ fn topology(rt: &impl Abort, alloc: Global) -> Result<Topology, Fail> {
 }
 
 #[test]
-fn hops_are_issued_down_from_a_core_as(rt: HostRuntime) -> Result<(), Fail> {
+fn hops_are_issued_or_refused(rt: HostRuntime) -> Result<(), Fail> {
     let topo = topology(&rt, rt.alloc())?;
     let mut store = Beacons::new(rt.alloc());
     assert!(rt; topo.has(CORE));
@@ -39,65 +40,25 @@ fn hops_are_issued_down_from_a_core_as(rt: HostRuntime) -> Result<(), Fail> {
     assert!(rt; store.extend(&topo, 4, 1, 63, NOW)? == 5);
     assert!(rt; store.extend(&topo, 5, 0, 63, NOW) == Err(BeaconError::Loop(CORE)));
     assert_eq!(rt; store.len(), 5);
-    Ok(())
-}
-
-#[test]
-fn only_a_core_as_begins_a_chain(rt: HostRuntime) -> Result<(), Fail> {
-    let topo = topology(&rt, rt.alloc())?;
-    let mut store = Beacons::new(rt.alloc());
+    // Only a core AS begins a chain.
     assert!(rt; topo.has(FIRST));
     assert!(rt; store.originate(&topo, FIRST, 2, 63, NOW) == Err(BeaconError::NotCore));
-    assert!(rt; store.issue(1).is_none());
+    // A hop is issued until it would have expired.
+    assert!(rt; store.originate(&topo, CORE, 2, 0, NOW)? == 6);
+    assert!(rt; store.extend(&topo, 6, 0, 0, NOW + 337_500_000)? == 7);
+    assert!(rt; store.extend(&topo, 6, 2, 0, NOW + 337_500_001) == Err(BeaconError::Expired));
+    assert!(rt; store.extend(&topo, 6, 2, 1, NOW + 337_500_001)? == 8);
+    assert!(rt; store.issue(9).is_none());
     Ok(())
 }
 
 #[test]
-fn a_hop_is_issued_until_it_would_have_expired(rt: HostRuntime) -> Result<(), Fail> {
-    let topo = topology(&rt, rt.alloc())?;
+fn a_roll_raises_the_generation(rt: HostRuntime) -> Result<(), Fail> {
     let mut store = Beacons::new(rt.alloc());
-    assert!(rt; topo.has(CORE));
-    assert!(rt; store.originate(&topo, CORE, 2, 0, NOW)? == 1);
-    assert!(rt; store.extend(&topo, 1, 0, 0, NOW + 337_500_000)? == 2);
-    assert!(rt; store.extend(&topo, 1, 2, 0, NOW + 337_500_001) == Err(BeaconError::Expired));
-    assert!(rt; store.extend(&topo, 1, 2, 1, NOW + 337_500_001)? == 3);
-    Ok(())
-}
-
-// The second hop as it is issued at first.
-fn second_hop() -> HopName {
-    HopName {
-        asn: FIRST,
-        generation: 0,
-        body: Body {
-            pos: 2,
-            exp: 63,
-            ts_path: 1_700_000_000,
-            inn: 1,
-            out: 2,
-            link: 0x5fc8_567c_f27d_6859_u64.to_be_bytes(),
-        },
-    }
-}
-
-#[test]
-fn a_new_key_makes_a_new_issue(rt: HostRuntime) -> Result<(), Fail> {
-    let topo = topology(&rt, rt.alloc())?;
-    let mut store = Beacons::new(rt.alloc());
-    assert!(rt; topo.has(CORE));
-    assert!(rt; store.originate(&topo, CORE, 2, 63, NOW)? == 1);
-    assert!(rt; store.extend(&topo, 1, 2, 63, NOW)? == 2);
-    assert!(rt; store.issue(2) == Some((second_hop(), 1)));
     assert!(rt; store.generation(FIRST) == 0);
     assert!(rt; store.roll(FIRST)? == 1);
+    assert!(rt; store.generation(FIRST) == 1);
     assert!(rt; store.generation(SECOND) == 0);
-    assert!(rt; store.extend(&topo, 1, 2, 63, NOW)? == 3);
-    let rolled = HopName {
-        generation: 1,
-        ..second_hop()
-    };
-    assert!(rt; store.issue(3) == Some((rolled, 1)));
-    assert!(rt; store.extend(&topo, 1, 2, 63, NOW) == Err(BeaconError::Duplicate(3)));
     Ok(())
 }
 

@@ -1,3 +1,4 @@
+//! What twins share, and which beacon a hop would be a twin of.
 ghost use Rattle.std.specs.Prelude.{◌≡◌};
 ghost use Rattle.epic_beacon.specs.Issuing.{twin};
 ghost use Rattle.epic_beacon.specs.Twins.{likeness};

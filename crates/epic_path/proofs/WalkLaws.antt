@@ -16,7 +16,7 @@ use Rattle.epic_num.specs.Same.{same_as}
 use Rattle.epic_num.specs.Segments.{first_as, last_as, is_well_formed}
 use Rattle.epic_num.specs.Paths.{are_lawful_kinds, are_joined, kind_of, meets, end_of, start_of, hop_count, is_lawful, path_start}
 use Rattle.epic_num.proofs.SameLaws.{same_as-Decides}
-use Rattle.epic_path.specs.Joins.{leg_from, walk, hops_of, are_short, of_lawful_kinds, joined}
+use Rattle.epic_path.specs.Joins.{leg_from, walk, hops_of, are_short, of_lawful_kinds, joined, JoinsAreLawful}
 
 -- a walk that began with a segment: its first leg, and the legs of the rest
 pub record Began (at : AsId) (i : ℕ) (s : Segment) (rest : List Segment) (legs : List Leg) : Type 0 where
@@ -147,3 +147,44 @@ short_parts segments e =
       | true ↦ λ f g. (leb-true _ _ f, g)
       | false ↦ λ f g. absurd (cc)
     ]) refl e
+
+-- ---- what is joined is lawful
+
+-- the first refusals don't apply where segments are joined
+pub record Joined (at : AsId) (segments : List Segment) (legs : List Leg) : Type 0 where
+  pub some : length segments ≡ 0 → ⊥
+  pub short : are_short segments ≡ true
+  pub walked : walk at 0 segments ≡ Ok legs
+  pub kinds : are_lawful_kinds (map (λ l. kind_of l.segment.kind l.against) legs) ≡ true
+
+kinds_passed : (r : Result (List Leg) PathError) (legs : List Leg) → of_lawful_kinds r ≡ Ok legs
+    → (r ≡ Ok legs) × (are_lawful_kinds (map (λ l. kind_of l.segment.kind l.against) legs) ≡ true)
+unfolding of_lawful_kinds
+kinds_passed (Err x) legs e = absurd (cc)
+kinds_passed (Ok made) legs e = let p = by (are_lawful_kinds (map (λ l. kind_of l.segment.kind l.against) made)) refl e in (ap Ok p.0, p.1)
+  where
+    by : (b : Bool) → are_lawful_kinds (map (λ l. kind_of l.segment.kind l.against) made) ≡ b
+        → cond {A = Result (List Leg) PathError} b (Ok made) (Err WrongKind) ≡ Ok legs
+        → (made ≡ legs) × (are_lawful_kinds (map (λ l. kind_of l.segment.kind l.against) legs) ≡ true)
+    by true k h = let same : made ≡ legs = cc in (same, subst (λ ls. are_lawful_kinds (map (λ l. kind_of l.segment.kind l.against) ls) ≡ true) same k)
+    by false k h = absurd (cc)
+
+joined_by : (at : AsId) (segments : List Segment) (legs : List Leg) → joined at segments ≡ Ok legs → Joined at segments legs
+unfolding joined
+joined_by at [] legs e = absurd (cc)
+joined_by at (s ∷ rest) legs e = by (are_short (s ∷ rest)) refl e
+  where
+    by : (b : Bool) → are_short (s ∷ rest) ≡ b → cond b (of_lawful_kinds (walk at 0 (s ∷ rest))) (Err TooLong) ≡ Ok legs → Joined at (s ∷ rest) legs
+    by true short h =
+        let passed = kinds_passed (walk at 0 (s ∷ rest)) legs h in
+        record { some = λ z. absurd (omega arith); short = short; walked = passed.0; kinds = passed.1 }
+    by false long h = absurd (cc)
+
+pub joins_are_lawful : JoinsAreLawful
+joins_are_lawful at segments legs formed small e =
+    let j = joined_by at segments legs e in
+    record {
+      lawful = walked_lawful at segments legs formed small (short_parts segments j.short).1 j.walked j.kinds;
+      starts = walked_start at 0 segments legs j.some j.walked;
+      over = walked_segments at 0 segments legs j.walked;
+    }

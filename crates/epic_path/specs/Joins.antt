@@ -1,5 +1,5 @@
 -- How segments are joined to a path.
-use Rattle.std.specs.Prelude.{ℕ, ◌+◌, Bool, true, false, ◌&&◌, nat_le, List, [], ◌∷◌, length, map, sum_by, Option, Some, None, Result, Ok, Err, if◌then◌else◌}
+use Rattle.std.specs.Prelude.{◌≡◌, ℕ, ◌+◌, ◌≤◌, All, IsTrue, Bool, true, false, ◌&&◌, nat_le, List, [], ◌∷◌, length, map, sum_by, Option, Some, None, Result, Ok, Err, if◌then◌else◌}
 use Rattle.std.specs.Option.{option_map_or}
 use Rattle.std.specs.Result.{result_map_both}
 use Rattle.epic_num.specs.declared.name.AsId.{AsId}
@@ -9,8 +9,8 @@ use Rattle.epic_num.specs.declared.path.Path.{Path}
 use Rattle.epic_num.specs.declared.path_error.PathError.{PathError}
 use Rattle.epic_num.specs.declared.path_error.PathError.TheVariants.{Empty, TooLong, Unjoined, WrongKind}
 use Rattle.epic_num.specs.Same.{same_as}
-use Rattle.epic_num.specs.Segments.{first_as, last_as}
-use Rattle.epic_num.specs.Paths.{end_of, kind_of, are_lawful_kinds}
+use Rattle.epic_num.specs.Segments.{first_as, last_as, is_well_formed}
+use Rattle.epic_num.specs.Paths.{end_of, kind_of, are_lawful_kinds, is_lawful, path_start}
 
 -- the leg over a segment for who stands at an AS: in construction direction from its first AS, against it from its last
 unfoldable pub leg_from : AsId → Segment → Option Leg
@@ -45,3 +45,16 @@ joined from segments = if are_short segments then of_lawful_kinds (walk from 0 s
 -- what a call of `join` shows
 unfoldable pub legs_of : Result Path PathError → Result (List Leg) PathError
 legs_of result = result_map_both (λ p. p.legs.items) (λ e. e) result
+
+-- the legs make a lawful path from an AS over the segments in turn
+pub record IsJoined (from : AsId) (segments : List Segment) (legs : List Leg) : Type 0 where
+  pub lawful : IsTrue (is_lawful legs)
+  pub starts : path_start legs ≡ from
+  pub over : map (λ l. l.segment) legs ≡ segments
+
+-- to nothing else are segments joined that are well formed and have at most 16 hops
+abbrev pub JoinsAreLawful : Type 0
+JoinsAreLawful =
+    (from : AsId) (segments : List Segment) (legs : List Leg)
+    → All (λ s. IsTrue (is_well_formed s)) segments → All (λ s. length s.hops.items ≤ 16) segments
+    → joined from segments ≡ Ok legs → IsJoined from segments legs

@@ -1,3 +1,4 @@
+-- Private: serves proofs of this crate alone; no public contract cites it.
 -- What the parts of the search for paths find.
 use Rattle.std.specs.Prelude.{◌≡◌, ℕ, ◌+◌, ◌<◌, Bool, true, false, nat_le, List, [], ◌∷◌, ◌++◌, length, filter, filter_map, flat_map, Option, Some, None, Result, Ok, Err, option_and_then, if◌then◌else◌}
 use Rattle.std.specs.Option.{option_map_or}

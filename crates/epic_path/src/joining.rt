@@ -1,9 +1,10 @@
-ghost use Rattle.std.specs.Prelude.{◌≡◌, ◌≤◌, [], ◌∷◌, IsTrue, All, IfOk, length, map};
+//! Joining segments in turn to a path.
+ghost use Rattle.std.specs.Prelude.{◌≡◌, ◌≤◌, [], ◌∷◌, IsTrue, All, length, map};
 ghost use Rattle.std.specs.Bool.{OnTrue};
 ghost use Rattle.std.specs.Result.{result_map_both};
 ghost use Rattle.epic_num.specs.Segments.{is_well_formed};
-ghost use Rattle.epic_num.specs.Paths.{are_lawful_kinds, kind_of, path_end, path_start};
-ghost use Rattle.epic_path.specs.Joins.{are_short, hops_of, joined, legs_of, walk};
+ghost use Rattle.epic_num.specs.Paths.{are_lawful_kinds, kind_of, path_end};
+ghost use Rattle.epic_path.specs.Joins.{JoinsAreLawful, are_short, hops_of, joined, legs_of, walk};
 
 use crate::ends::{leg_end, leg_from};
 use arrayvec::ArrayVec;
@@ -79,12 +80,16 @@ fn are_lawful_kinds(legs: &[Leg]) -> bool
     }
 }
 
-/// The path from `from` over the segments in turn, or the first reason why there is none. It takes no memory.
+/// The path from `from` over the segments in turn: each is travelled from the end where the path has come, in construction
+/// direction where its first AS is there, else against it. The segments are well formed. It takes no memory.
+///
+/// # Errors
+/// The first that applies: `Empty` for no segments; `TooLong` for more than 3 segments or 32 hops; `Unjoined` for the first
+/// segment, by its index from 0, that has the AS reached at neither end; `WrongKind` where the legs' kinds don't go together:
+/// at most one up, one core and one down leg, in this order.
 pub fn join(from: AsId, segments: &[Segment]) -> Result<Path, PathError>
     requires { All (λ s. IsTrue (is_well_formed s)) segments.now }
-    ensures joined { legs_of result ≡ joined from segments.now }
-    ensures over { IfOk result (λ path. map (λ l. l.segment) path.legs.items ≡ segments.now) }
-    ensures start { IfOk result (λ path. path_start path.legs.items ≡ from) }
+    ensures { legs_of result ≡ joined from segments.now }
 {
     if segments.is_empty() {
         return Err(PathError::Empty);
@@ -98,6 +103,11 @@ pub fn join(from: AsId, segments: &[Segment]) -> Result<Path, PathError>
     }
     Ok(Path { legs })
 }
+
+/// A law: well-formed segments of at most 16 hops are joined to a lawful path from that AS over the segments in turn.
+pub fn joins_are_lawful()
+    ensures { JoinsAreLawful }
+{}
 
 /// The AS where a path ends.
 #[tactic(auto, unfolding(epic_num::specs::Paths::path_end))]

@@ -1,3 +1,4 @@
+//! All lawful paths between two ASes.
 ghost use Rattle.std.specs.Prelude.{◌≡◌, ◌<◌, ◌≤◌, All, Err, IfOk, IsTrue, List, OnOk, length, map, nat_eq};
 ghost use Rattle.std.specs.List.{IsDistinct};
 ghost use Rattle.std.specs.List.Sorted.{IsPermutation, IsSorted};
@@ -29,9 +30,13 @@ fn sort(paths: &mut Vec<PathRef>)
     paths.sort_unstable_by(compare);
 }
 
-/// Every path from one AS to another over the segments, or `TooMany` where there are more than `most`. A path is named
-/// by the last issue of each of its segments. The paths are ordered by their numbers of hops and then by their lists of
-/// issues. There is none from an AS to itself.
+/// Every path from one AS to another over the segments: each list of at most 3 of them that `join` takes from the one and
+/// that ends at the other. A path is named by the last issue of each of its segments. The paths are ordered by their
+/// numbers of hops and then by their lists of issues. There is none from an AS to itself. The segments are well formed, and
+/// no two have one last issue.
+///
+/// # Errors
+/// `TooMany` where there are more than `most` paths; `OutOfMemory`.
 pub fn all_paths(
     alloc: Global,
     segments: &[Segment],
@@ -56,7 +61,7 @@ pub fn all_paths(
     Ok(PathList::from_vec(found))
 }
 
-/// One list of paths alone is every path, each once and in order.
+/// A law: one list of paths alone is every path, each once and in order.
 pub fn every_path_is_one_list()
     ensures { (segments : List Segment) (from to : AsId) (paths others : List PathRef)
         → IsEveryPath segments from to paths → IsEveryPath segments from to others → paths ≡ others }

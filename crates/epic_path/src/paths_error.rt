@@ -1,3 +1,4 @@
+//! Why there is no list of paths.
 use std::alloc::AllocError;
 
 /// Why there is no list of paths.

@@ -1,3 +1,4 @@
+//! Joins, lists of paths, and a search that has to begin at both ends.
 use super::*;
 use arrayvec::ArrayVec;
 use epic_num::{AsId, Body, Path, PathList, SegHop, SegKind, Segment};

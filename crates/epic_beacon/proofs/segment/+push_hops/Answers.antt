@@ -1,6 +1,6 @@
 use Rattle.std.proofs.Common.{◌≡◌, suc, ◌-◌, List, [], ◌∷◌, ◌++◌, sym, ◌∙◌, ap, arith, append_assoc, append-nil}
 use Rattle.epic_num.specs.declared.segment.SegHop.{SegHop}
-use Rattle.epic_beacon.specs.Hops.{last_hops}
+use Rattle.epic_beacon.specs.Segments.{last_hops}
 use Rattle.epic_beacon.proofs.Formed.{hops_there, hops_gone, no_hops}
 use Rattle.epic_beacon.proofs.segment.+push_hops.Goals as goal
 

@@ -2,7 +2,7 @@ use Rattle.std.proofs.Common.{◌≡◌, ◌<◌, ◌+◌, ◌++◌, ◌∷◌, 
 use Rattle.std.specs.BTreeMap.{get}
 use Rattle.epic_beacon.specs.Chained.{IsChained}
 use Rattle.epic_beacon.specs.Issuing.{twin}
-use Rattle.epic_beacon.specs.Store.{Store}
+use Rattle.epic_beacon.specs.Store.{Held}
 use Rattle.epic_beacon.specs.Twins.{Likeness, likeness, likeness_cmp}
 use Rattle.epic_beacon.proofs.Twins.{indexed_more}
 use Rattle.epic_beacon.proofs.beacons.Beacons.add.Goals as goal
@@ -19,6 +19,6 @@ invariant_of-self-in-Ok c =
     ≡ cond (is_eq (likeness_cmp k q)) (Some (length old.beacons.items + 1)) (get likeness_cmp old.twins q)) shared
     (rw (← count) c.in-Ok.ensures.updates.0) in
     rw items (indexed_more old.twins c.insert.new.self old.beacons.items b c.self.invariant
-    (subst (λ (s : Store). length s.beacons < 65536) store c.requires.few)
-    (subst (λ (s : Store). IsChained s.beacons (length s.beacons + 1) b) store c.requires.chained)
-    (subst (λ (s : Store). twin s.beacons b.name b.parent ≡ None) store c.requires.new) put)
+    (subst (λ (s : Held). length s.beacons < 65536) store c.requires.few)
+    (subst (λ (s : Held). IsChained s.beacons (length s.beacons + 1) b) store c.requires.chained)
+    (subst (λ (s : Held). twin s.beacons b.name b.parent ≡ None) store c.requires.new) put)

@@ -1,6 +1,6 @@
 use Rattle.std.proofs.Common.{subst, arith}
 use Rattle.epic_beacon.specs.Chained.{AreChained}
-use Rattle.epic_beacon.specs.Store.{Store}
+use Rattle.epic_beacon.specs.Store.{Held}
 use Rattle.epic_beacon.proofs.Issued.{parent_known, parent_linked, position_few}
 use Rattle.epic_beacon.proofs.beacons.Beacons.extended_from.Goals as goal
 
@@ -14,6 +14,6 @@ next_name-name-requires-clause-linked c =
 
 pub next_name-name-requires-clause-room : goal.next_name-name-requires-clause-room
 next_name-name-requires-clause-room c =
-    let chained = subst (λ (s : Store). AreChained s.beacons) c.self.view_is c.self.invariant.chained in
+    let chained = subst (λ (s : Held). AreChained s.beacons) c.self.view_is c.self.invariant.chained in
     let few = position_few c.args.self.now.beacons c.args.parent c.args.from.now chained c.requires.there in
     omega arith

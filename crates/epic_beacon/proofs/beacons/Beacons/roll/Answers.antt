@@ -1,25 +1,29 @@
-use Rattle.std.proofs.Common.{◌≡◌, ◌+◌, sym, subst, ap}
-use Rattle.std.specs.Prelude.{if◌then◌else◌}
-use Rattle.epic_num.specs.Same.{same_as}
-use Rattle.epic_beacon.specs.Store.{Store, Rolls, generation_of}
+use Rattle.std.proofs.Common.{◌≡◌, ◌+◌, nat_cmp, sym, ◌∙◌, subst, ap}
+use Rattle.std.specs.Prelude.{Some}
+use Rattle.std.specs.BTreeMap.{Updates}
+use Rattle.epic_beacon.specs.Store.{Held, Store, Rolls, generation_in, store_of, with_roll}
 use Rattle.epic_beacon.proofs.Rolled.{rolled, unrolled}
 use Rattle.epic_beacon.proofs.beacons.Beacons.roll.Goals as goal
 use Rattle.epic_beacon.proofs.beacons.Beacons.roll.Goals.{in-Ok, in-Err}
 
-pub returns-clause-generations : goal.returns-clause-generations
-returns-clause-generations c =
+pub returns : goal.returns
+returns c =
     let a = c.args.a in
-    let old = c.args.self.now.generations in
-    let stored = c.self.inside.generations in
-    let new = c.insert.new.self in
-    let next = c.generation-next.result + 1 in
+    let beacons = c.self.inside.beacons.items in
+    let old = c.self.inside.generations in
+    let put = c.insert.new.self in
+    let new : Store = record { beacons = beacons; generations = generation_in put.entries } in
+    let was : c.generation-next.result ≡ generation_in old.entries a =
+    c.generation-next.ensures ∙ sym (ap (λ (v : Held). (store_of v).generations a) c.self.view_is) in
     elim c.match-insert.branch [
-      | in-Ok w ↦ subst (Rolls old new.entries a) (sym w.result-is) (
+      | in-Ok w ↦ subst (Rolls (store_of c.args.self.now) new a) (sym w.result-is) (
         ap (λ n. n + 1) c.generation-next.ensures,
-        λ b. subst (λ (s : Store). generation_of new.entries b ≡ (if same_as a b then next else generation_of s.generations b)) c.self.view_is
-            (rolled stored new a next w.in-Ok.ensures.updates b),
+        subst (λ (v : Held). new ≡ with_roll (store_of v) a) c.self.view_is
+            (λ i. record {
+              beacons = beacons;
+              generations = λ b. rolled old put a (subst (λ n. Updates nat_cmp old put a.0 (Some (n + 1))) was w.in-Ok.ensures.updates) b i;
+            }),
       )
-      | in-Err w ↦ subst (Rolls old new.entries a) (sym w.result-is)
-          (λ b. subst (λ (s : Store). generation_of new.entries b ≡ generation_of s.generations b) c.self.view_is
-          (unrolled stored new w.in-Err.ensures.err b))
+      | in-Err w ↦ subst (Rolls (store_of c.args.self.now) new a) (sym w.result-is)
+          (subst (λ (v : Held). new ≡ store_of v) c.self.view_is (λ i. record { beacons = beacons; generations = λ b. unrolled old put w.in-Err.ensures.err b i }))
     ]
