@@ -11,8 +11,9 @@ use Rattle.epic_num.specs.declared.turn.Turn.{Turn}
 use Rattle.epic_num.specs.declared.turn.Turn.TheVariants.{Forward, Deliver, Refused}
 use Rattle.epic_num.specs.Levels.{is_first_byte}
 use Rattle.epic_num.specs.Same.{same_as}
+use Rattle.epic_num.specs.Tables.{unless as or_error}
 use Rattle.epic_layout.specs.Contents.{Contents, hop_count}
-use Rattle.epic_layout.specs.Layout.{fault, or_fault, parse}
+use Rattle.epic_layout.specs.Layout.{fault, parse}
 use Rattle.epic_layout.specs.Pieces.{byte}
 use Rattle.epic_layout.specs.Route.{egress}
 use Rattle.epic_layout.specs.Sound.{IsSound}
@@ -20,10 +21,13 @@ use Rattle.epic_layout.proofs.Shapes.{hop_count_parse}
 use Rattle.epic_layout.proofs.Soundness.{sound, faultless, checked_sound}
 use Rattle.epic_topo.specs.Network.{Network}
 use Rattle.epic_router.specs.Candidates.{field_fits, tags_fit, accepting}
-use Rattle.epic_router.specs.Turns.{first_row, differ, is_wrong_source, is_wrong_switch, kind_rows, entry_rows, hop_rows, exit_rows, rows, onward, unless, handled, turn_of, bytes_after}
+use Rattle.epic_num.specs.Tables.{first_row}
+use Rattle.epic_router.specs.Checks.{differ, is_wrong_source, is_wrong_switch, entry_rows, exit_rows, switch_rows, tag_rows, valid_rows}
+use Rattle.epic_router.specs.Handling.{unless}
+use Rattle.epic_router.specs.Turns.{kind_rows, hop_rows, rows, onward, handled, turn_of, bytes_after}
 use Rattle.epic_router.specs.Accepted.{IsEntered, IsRightHop, GoesOn, IsAccepted, IsForwarded, IsDelivered, IsRightTurn, TurnsAreRight}
 use Rattle.epic_router.proofs.OneOn.{goes_on}
-use Rattle.epic_router.proofs.Rows.{row_passed, all_passed}
+use Rattle.epic_num.proofs.TableLaws.{row_passed, all_passed}
 
 -- ---- tests that fail
 
@@ -86,7 +90,7 @@ found_from test (x ∷ xs) g e =
 
 right_hop : (t : Network) (a : AsId) (candidates : List ℕ) (now : ℕ) (p : Contents) (j : ℕ) → first_row (hop_rows t a candidates now p j) ≡ None
     → IsRightHop t a (unwrap_or (accepting t a candidates p j) 0) now p j × Contains candidates (unwrap_or (accepting t a candidates p j) 0)
-unfolding hop_rows accepting tags_fit field_fits is_wrong_switch
+unfolding hop_rows valid_rows tag_rows switch_rows accepting tags_fit field_fits is_wrong_switch
 right_hop t a candidates now p j e =
     let future = row_passed _ _ e in
     let expired = row_passed _ _ future.1 in
@@ -219,7 +223,7 @@ turns_are_right t a candidates iface now bytes =
 
 -- the same for bytes that were checked
 pub checked_turn : {X : Type 0} (t : Network) (a : AsId) (candidates : List ℕ) (iface now : ℕ) (bytes : List ℕ) (answer : Turn) (x y : X)
-    → Ok x ≡ or_fault (fault is_first_byte bytes) y → answer ≡ handled t a candidates iface now (parse bytes)
+    → Ok x ≡ or_error (fault is_first_byte bytes) y → answer ≡ handled t a candidates iface now (parse bytes)
     → IsRightTurn t a candidates iface now bytes answer
 unfolding turn_of
 checked_turn t a candidates iface now bytes answer x y checked e =

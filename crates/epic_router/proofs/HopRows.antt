@@ -10,7 +10,9 @@ use Rattle.epic_layout.specs.Route.{body}
 use Rattle.epic_topo.specs.Network.{Network}
 use Rattle.epic_fields.specs.HopChecks.{hop_name, has_link}
 use Rattle.epic_router.specs.Candidates.{field_fits}
-use Rattle.epic_router.specs.Turns.{first_row, hop_rows, is_wrong_switch}
+use Rattle.epic_num.specs.Tables.{first_row}
+use Rattle.epic_router.specs.Checks.{is_wrong_switch, switch_rows, tag_rows, valid_rows}
+use Rattle.epic_router.specs.Turns.{hop_rows}
 use Rattle.epic_router.proofs.TagLaws.{one_field, none_accepting, one_accepting}
 
 -- the hop is valid at this moment
@@ -20,7 +22,7 @@ pub record IsValid (t : Network) (now : ℕ) (p : Contents) (j : ℕ) : Type 0 w
 
 pub bad_field : (t : Network) (a : AsId) (g now : ℕ) (p : Contents) (j : ℕ) → IsValid t now p j
     → field_fits t a p j g ≡ false → first_row (hop_rows t a (g ∷ []) now p j) ≡ Some (BadField, j)
-unfolding hop_rows
+unfolding hop_rows valid_rows tag_rows switch_rows
 bad_field t a g now p j valid field =
     cond-false _ _ _ valid.not_future
     ∙ (cond-false _ _ _ valid.not_expired
@@ -28,7 +30,7 @@ bad_field t a g now p j valid field =
 
 pub bad_link : (t : Network) (a : AsId) (g now : ℕ) (p : Contents) (j : ℕ) → IsValid t now p j
     → field_fits t a p j g ≡ true → has_link t (hop_name a g p j) p j ≡ false → first_row (hop_rows t a (g ∷ []) now p j) ≡ Some (BadLink, j)
-unfolding hop_rows
+unfolding hop_rows valid_rows tag_rows switch_rows
 bad_link t a g now p j valid field link =
     cond-false _ _ _ valid.not_future
     ∙ (cond-false _ _ _ valid.not_expired
@@ -38,7 +40,7 @@ bad_link t a g now p j valid field link =
 pub right_tags : (t : Network) (a : AsId) (g now : ℕ) (p : Contents) (j : ℕ) → IsValid t now p j
     → field_fits t a p j g ≡ true → has_link t (hop_name a g p j) p j ≡ true
     → first_row (hop_rows t a (g ∷ []) now p j) ≡ (if is_wrong_switch p j then Some (WrongSwitch, j) else None)
-unfolding hop_rows
+unfolding hop_rows valid_rows tag_rows switch_rows
 right_tags t a g now p j valid field link =
     cond-false _ _ _ valid.not_future
     ∙ (cond-false _ _ _ valid.not_expired

@@ -1,6 +1,10 @@
 pub mod AcceptedLaws
+pub mod After
 pub mod HopRows
 pub mod OneOn
+pub mod Passed
 pub mod Places
+pub mod Right
 pub mod Rows
+pub mod Stamps
 pub mod TagLaws

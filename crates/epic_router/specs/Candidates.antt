@@ -1,5 +1,5 @@
 -- A hop's tags under the generations of its AS's forwarding key that a router tries.
-use Rattle.std.specs.Prelude.{ℕ, Bool, ◌&&◌, List, Option, find}
+use Rattle.std.specs.Prelude.{ℕ, ◌-◌, ◌==◌, Bool, ◌&&◌, if◌then◌else◌, List, [], ◌∷◌, Option, find}
 use Rattle.std.specs.List.{list_any}
 use Rattle.epic_num.specs.declared.name.AsId.{AsId}
 use Rattle.epic_layout.specs.Contents.{Contents}
@@ -21,3 +21,7 @@ some_field_fits t a candidates p j = list_any (field_fits t a p j) candidates
 -- the generation under which the hop is accepted: the first under which both are right
 unfoldable pub accepting : Network → AsId → List ℕ → Contents → ℕ → Option ℕ
 accepting t a candidates p j = find (tags_fit t a p j) candidates
+
+-- the generations that a router tries, where this is the present one: it, and then the one before it
+unfoldable pub candidates_of : ℕ → List ℕ
+candidates_of generation = if generation == 0 then 0 ∷ [] else generation ∷ (generation - 1) ∷ []

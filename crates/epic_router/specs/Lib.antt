@@ -1,3 +1,7 @@
 pub mod Accepted
 pub mod Candidates
+pub mod Checks
+pub mod Handling
+pub mod Leaving
+pub mod RightTurns
 pub mod Turns

@@ -3,10 +3,11 @@
 
 mod laws;
 mod refusal;
-mod tags;
+mod right_turns;
 #[cfg(test)]
 mod tests;
 mod turning;
 
 pub use laws::accepted_packets_are_right;
+pub use right_turns::turns_are_right;
 pub use turning::turn;

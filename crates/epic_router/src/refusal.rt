@@ -1,12 +1,13 @@
 //! The rows of a router's table of checks: each function tells the first that fails, and the index of the hop there.
 ghost use Rattle.std.specs.Prelude.{◌≡◌, ◌<◌, ◌≤◌, [], ◌∷◌, Some, IsTrue, IfNone};
 ghost use Rattle.epic_layout.specs.Contents.{hop_count};
-ghost use Rattle.epic_layout.specs.Route.{hops_of};
 ghost use Rattle.epic_topo.specs.Network.{has};
 ghost use Rattle.epic_router.specs.Candidates.{accepting};
-ghost use Rattle.epic_router.specs.Turns.{entry_rows, exit_rows, first_row, hop_rows, kind_rows, is_wrong_source, is_wrong_switch, rows};
+ghost use Rattle.epic_num.specs.Tables.{first_row};
+ghost use Rattle.epic_router.specs.Checks.{entry_rows, exit_rows, is_wrong_source, is_wrong_switch};
+ghost use Rattle.epic_router.specs.Turns.{hop_rows, kind_rows, rows};
 
-use crate::tags::{has_field, has_link};
+use epic_fields::{authenticator, carries_field, carries_link, link_tag, untagged_field};
 use epic_keys::derive;
 use epic_num::{AsId, Check, KeyName, LayoutError, is_expired, same_as};
 use epic_topo::Topology;
@@ -14,7 +15,7 @@ use epic_view::PacketRef;
 
 /// Whether a packet comes from inside the AS without being at its first hop and of a source there, or is at its first hop
 /// and comes from outside.
-#[tactic(auto, unfolding(crate::specs::Turns::is_wrong_source))]
+#[tactic(auto, unfolding(crate::specs::Checks::is_wrong_source))]
 fn is_wrong_source(packet: &PacketRef<'_>, a: AsId, iface: u16) -> bool
     ensures { result ≡ is_wrong_source a iface packet.now }
 {
@@ -22,7 +23,7 @@ fn is_wrong_source(packet: &PacketRef<'_>, a: AsId, iface: u16) -> bool
 }
 
 /// Whether hop `j` is entered or left from inside its AS elsewhere than at the ends of its segment, or is an end without it.
-#[tactic(auto, unfolding(crate::specs::Turns::is_wrong_switch))]
+#[tactic(auto, unfolding(crate::specs::Checks::is_wrong_switch))]
 fn is_wrong_switch(packet: &PacketRef<'_>, j: u8) -> bool
     requires { j < hop_count packet.now }
     ensures { result ≡ is_wrong_switch packet.now j }
@@ -49,7 +50,7 @@ fn kind_refusal(packet: &PacketRef<'_>) -> Option<(Check, u8)>
 }
 
 /// The checks of how a packet comes to its current hop `j`.
-#[tactic(auto, unfolding(crate::specs::Turns::entry_rows))]
+#[tactic(auto, unfolding(crate::specs::Checks::entry_rows))]
 fn entry_refusal(packet: &PacketRef<'_>, a: AsId, iface: u16, j: u8) -> Option<(Check, u8)>
     requires within { j ≤ hop_count packet.now }
     ensures value { result ≡ first_row (entry_rows a iface packet.now j) }
@@ -68,7 +69,7 @@ fn entry_refusal(packet: &PacketRef<'_>, a: AsId, iface: u16, j: u8) -> Option<(
 }
 
 /// The checks of hop `j` by itself, under one generation of its AS's forwarding key.
-#[tactic(auto, unfolding(crate::specs::Turns::hop_rows, epic_keys::specs::Keys::owner))]
+#[tactic(auto, unfolding(crate::specs::Turns::hop_rows, crate::specs::Checks::valid_rows, crate::specs::Checks::tag_rows, crate::specs::Checks::switch_rows, epic_keys::specs::Keys::owner))]
 fn hop_refusal(
     topo: &Topology,
     packet: &PacketRef<'_>,
@@ -80,7 +81,6 @@ fn hop_refusal(
     requires known { IsTrue (has topo.now a) }
     requires level { packet.now.first ≡ 0xE0 }
     requires there { j < hop_count packet.now }
-    requires counted { hops_of packet.now.route.segments ≡ hop_count packet.now }
     ensures value { result ≡ first_row (hop_rows topo.now a (generation ∷ []) now packet.now j) }
     ensures accepting { IfNone result (accepting topo.now a (generation ∷ []) packet.now j ≡ Some generation) }
 {
@@ -92,10 +92,11 @@ fn hop_refusal(
         return Some((Check::Expired, j));
     }
     let key = derive(topo, &KeyName::Fwd { a, g: generation });
-    if !has_field(packet, j, &key, &body) {
+    let field = untagged_field(&authenticator(&key, &body), packet, j);
+    if !carries_field(&field, packet, j) {
         return Some((Check::BadField, j));
     }
-    if !has_link(packet, j, &key, &body) {
+    if !carries_link(&link_tag(&key, &body), packet, j) {
         return Some((Check::BadLink, j));
     }
     if is_wrong_switch(packet, j) {
@@ -105,7 +106,7 @@ fn hop_refusal(
 }
 
 /// The checks of how a packet leaves hop `j`.
-#[tactic(auto, unfolding(crate::specs::Turns::exit_rows))]
+#[tactic(auto, unfolding(crate::specs::Checks::exit_rows))]
 fn exit_refusal(topo: &Topology, packet: &PacketRef<'_>, a: AsId, j: u8) -> Option<(Check, u8)>
     requires { j < hop_count packet.now }
     ensures { result ≡ first_row (exit_rows topo.now a packet.now j) }
@@ -121,7 +122,7 @@ fn exit_refusal(topo: &Topology, packet: &PacketRef<'_>, a: AsId, j: u8) -> Opti
 }
 
 /// All checks of a packet.
-#[tactic(auto, using(crate::proofs::Rows::tables), unfolding(crate::specs::Turns::rows))]
+#[tactic(auto, using(epic_num::proofs::TableLaws::tables), unfolding(crate::specs::Turns::rows))]
 pub(crate) fn refusal(
     topo: &Topology,
     packet: &PacketRef<'_>,
@@ -132,7 +133,6 @@ pub(crate) fn refusal(
 ) -> Option<(Check, u8)>
     requires known { IsTrue (has topo.now a) }
     requires within { packet.now.current ≤ hop_count packet.now }
-    requires counted { hops_of packet.now.route.segments ≡ hop_count packet.now }
     ensures value { result ≡ first_row (rows topo.now a (generation ∷ []) iface now packet.now) }
     ensures there { IfNone result (packet.now.current < hop_count packet.now) }
     ensures accepting { IfNone result (accepting topo.now a (generation ∷ []) packet.now packet.now.current ≡ Some generation) }

@@ -1,8 +1,11 @@
+//! The turn of a packet, over its bytes.
+
 ghost use Rattle.std.specs.Prelude.{◌≡◌, ◌<◌, [], ◌∷◌, Ok, IsTrue};
 ghost use Rattle.epic_num.specs.Levels.{is_first_byte};
+ghost use Rattle.epic_num.specs.Tables.{unless};
 ghost use Rattle.epic_layout.specs.Contents as contents;
 ghost use Rattle.epic_layout.specs.Contents.{hop_count};
-ghost use Rattle.epic_layout.specs.Layout.{fault, or_fault, parse};
+ghost use Rattle.epic_layout.specs.Layout.{fault, parse};
 ghost use Rattle.epic_topo.specs.Network.{has};
 ghost use Rattle.epic_router.specs.Accepted.{IsRightTurn};
 ghost use Rattle.epic_router.specs.Turns.{bytes_after, handled, onward, turn_of};
@@ -35,7 +38,7 @@ fn onward(packet: &PacketRef<'_>, j: u8, generation: u32) -> Turn
 }
 
 /// The turn of a packet without a fault, whose sizes are known.
-#[tactic(auto, using(crate::proofs::Places::counted_parse, crate::proofs::Places::current_parse, crate::proofs::Rows::bytes_onward), unfolding(crate::specs::Turns::handled, crate::specs::Turns::bytes_after, epic_layout::specs::Layout::parse))]
+#[tactic(auto, using(crate::proofs::Places::current_parse, crate::proofs::Rows::bytes_onward), unfolding(crate::specs::Turns::handled, crate::specs::Turns::bytes_after, epic_layout::specs::Layout::parse))]
 fn handle(
     topo: &Topology,
     a: AsId,
@@ -46,7 +49,7 @@ fn handle(
     now: u64,
 ) -> Turn
     requires known { IsTrue (has topo.now a) }
-    requires checked { Ok sizes ≡ or_fault (fault is_first_byte bytes.old) (contents.shape (parse bytes.old)) }
+    requires checked { Ok sizes ≡ unless (fault is_first_byte bytes.old) (contents.shape (parse bytes.old)) }
     ensures answer { result ≡ handled topo.now a (generation ∷ []) iface now (parse bytes.old) }
     ensures bytes { bytes.new ≡ bytes_after result bytes.old }
 {
