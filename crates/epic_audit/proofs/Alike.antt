@@ -7,9 +7,10 @@ use Rattle.epic_num.specs.Chains.{Issue, issue_at}
 use Rattle.epic_num.proofs.ChainLaws.{issue_at-suc}
 use Rattle.epic_layout.specs.Contents.{Contents}
 use Rattle.epic_topo.specs.Network.{Network}
-use Rattle.epic_keys.specs.Tags.{sigma}
+use Rattle.epic_fields.specs.Tags.{sigma}
 use Rattle.epic_ledger.specs.Facts.{Facts, Sent, sent_name}
-use Rattle.epic_audit.specs.Clauses.{is_level, IsIssued, is_sent_like}
+use Rattle.epic_num.specs.Levels.{is_timed}
+use Rattle.epic_audit.specs.Clauses.{IsIssued, is_sent_like}
 use Rattle.epic_audit.specs.Collided.{HaveOneSigma}
 use Rattle.epic_audit.specs.Kept.{AreApart}
 use Rattle.epic_audit.specs.Verdicts.{is_twin, twin_issue, twin_sent}
@@ -25,19 +26,19 @@ one_sigma t x y e differ =
 -- ---- among issues
 
 pub record TwinIssued (t : Network) (f : Facts) (x : HopName) (p : Contents) (y : HopName) : Type 0 where
-  pub level : is_level 0 p.first ≡ false
+  pub level : is_timed p.first ≡ true
   pub issued : IsIssued f.issues y
   pub twin : is_twin t x y ≡ true
 
 pub twin_issued : (t : Network) (f : Facts) (x : HopName) (p : Contents) (y : HopName) → twin_issue t f x p ≡ Some y → TwinIssued t f x p y
 unfolding twin_issue
-twin_issued t f x p y e = by (is_level 0 p.first) (find (λ i. is_twin t x i.name) f.issues) refl refl e
+twin_issued t f x p y e = by (is_timed p.first) (find (λ i. is_twin t x i.name) f.issues) refl refl e
   where
-    by : (b : Bool) (o : Option Issue) → is_level 0 p.first ≡ b → find (λ i. is_twin t x i.name) f.issues ≡ o
-        → (if b then None else option_map (λ i. i.name) o) ≡ Some y → TwinIssued t f x p y
-    by true o h k s = absurd (cc)
-    by false None h k s = absurd (cc)
-    by false (Some i) h k s =
+    by : (b : Bool) (o : Option Issue) → is_timed p.first ≡ b → find (λ i. is_twin t x i.name) f.issues ≡ o
+        → (if b then option_map (λ i. i.name) o else None) ≡ Some y → TwinIssued t f x p y
+    by false o h k s = absurd (cc)
+    by true None h k s = absurd (cc)
+    by true (Some i) h k s =
         let is = found (λ (n : Issue). is_twin t x n.name) f.issues i k in
         let same : i.name ≡ y = cc in
         record {
@@ -46,12 +47,12 @@ twin_issued t f x p y e = by (is_level 0 p.first) (find (λ i. is_twin t x i.nam
           twin = ap (is_twin t x) (sym same) ∙ is.passes;
         }
 
-pub no_twin_issued : (t : Network) (f : Facts) (x : HopName) (p : Contents) → twin_issue t f x p ≡ None → is_level 0 p.first ≡ false
+pub no_twin_issued : (t : Network) (f : Facts) (x : HopName) (p : Contents) → twin_issue t f x p ≡ None → is_timed p.first ≡ true
     → (number : ℕ) (i : Issue) → issue_at f.issues number ≡ Some i → i.name.asn ≡ x.asn → sigma t i.name ≡ sigma t x → ⊥
 unfolding twin_issue
 no_twin_issued t f x p e level number i there asn same =
     by (find (λ n. is_twin t x n.name) f.issues) refl
-    (sym (ap (λ (b : Bool). if b then None else option_map (λ n. n.name) (find (λ n. is_twin t x n.name) f.issues)) level) ∙ e)
+    (sym (ap (λ (b : Bool). if b then option_map (λ n. n.name) (find (λ n. is_twin t x n.name) f.issues) else None) level) ∙ e)
   where
     by : (o : Option Issue) → find (λ n. is_twin t x n.name) f.issues ≡ o → option_map (λ n. n.name) o ≡ None → ⊥
     by (Some n) k s = cc

@@ -15,11 +15,13 @@ use Rattle.epic_layout.specs.Contents.{Contents, hop_count}
 use Rattle.epic_topo.specs.Network.{Network}
 use Rattle.epic_ledger.specs.Facts.{Facts, Sent, Pass, Reveal, pass_name, sent_name}
 use Rattle.epic_ledger.specs.Queries.{reveal_of, is_pass_of}
-use Rattle.epic_audit.specs.Clauses.{is_level, sent_as, is_sent_as, IsPassedOn, IsCovered, ArePassed, DestOk}
+use Rattle.epic_num.specs.Levels.{is_updated}
+use Rattle.epic_audit.specs.Clauses.{sent_as, is_sent_as, IsPassedOn, IsCovered, ArePassed, DestOk}
 use Rattle.epic_audit.specs.Kept.{AreApart}
 use Rattle.epic_audit.specs.Reveals.{IsRevealed, is_revealed}
 use Rattle.epic_audit.specs.declared.uncovered.Uncovered.{Uncovered}
-use Rattle.epic_audit.specs.Verdicts.{no_name, sent_hop, is_uncovered, uncovered_in, uncovered, is_twin_pass, twin_pass}
+use Rattle.epic_num.specs.Chains.{no_name}
+use Rattle.epic_audit.specs.Verdicts.{sent_hop, is_uncovered, uncovered_in, uncovered, is_twin_pass, twin_pass}
 use Rattle.epic_audit.proofs.Finds.{found, missing, found_only, any_there, none_there}
 use Rattle.epic_audit.proofs.Walked.{range_at}
 use Rattle.epic_audit.proofs.Decided.{SentAs, is_sent_as-Decides, is_pass_of-Decides, TwinPassed, is_twin_pass-Decides}
@@ -93,7 +95,7 @@ range_within n k i e =
 
 -- what an uncovered hop is
 pub record IsUncovered (f : Facts) (p : Contents) (s : Sent) (u : Uncovered) : Type 0 where
-  pub level : is_level 3 p.first ≡ true
+  pub level : is_updated p.first ≡ true
   pub host_closed : IsRevealed f.reveals (Host p.src) → ⊥
   pub source_closed : IsRevealed f.reveals (As p.src.asn) → ⊥
   pub inside : u.hop < hop_count s.packet
@@ -135,10 +137,10 @@ module _ (f : Facts) (p : Contents) (s : Sent) where
   uncovered_there : (u : Uncovered) → uncovered_in f p s ≡ Some u → IsUncovered f p s u
   unfolding uncovered_in
   uncovered_there u e =
-      by (is_level 3 p.first) (is_revealed f.reveals (Host p.src)) (is_revealed f.reveals (As p.src.asn)) (find (is_uncovered f p s) (range_with_len 0 (hop_count s.packet)))
+      by (is_updated p.first) (is_revealed f.reveals (Host p.src)) (is_revealed f.reveals (As p.src.asn)) (find (is_uncovered f p s) (range_with_len 0 (hop_count s.packet)))
       refl refl refl refl e
     where
-      by : (l h a : Bool) (o : Option ℕ) → is_level 3 p.first ≡ l → is_revealed f.reveals (Host p.src) ≡ h → is_revealed f.reveals (As p.src.asn) ≡ a
+      by : (l h a : Bool) (o : Option ℕ) → is_updated p.first ≡ l → is_revealed f.reveals (Host p.src) ≡ h → is_revealed f.reveals (As p.src.asn) ≡ a
           → find (is_uncovered f p s) (range_with_len 0 (hop_count s.packet)) ≡ o
           → (if not l || (h || a) then None else option_map (sent_hop f s) o) ≡ Some u
           → IsUncovered f p s u
@@ -161,13 +163,13 @@ module _ (f : Facts) (p : Contents) (s : Sent) where
             unpassed = subst (λ (x : HopName). IsPassedOn f.passes x p u.hop → ⊥) name (subst (λ n. IsPassedOn f.passes free.0 p n → ⊥) hop free.3);
           }
 
-  none_uncovered : uncovered_in f p s ≡ None → is_level 3 p.first ≡ true → ArePassed f p s
+  none_uncovered : uncovered_in f p s ≡ None → is_updated p.first ≡ true → ArePassed f p s
   unfolding uncovered_in
   none_uncovered e level =
-      by (is_level 3 p.first) (is_revealed f.reveals (Host p.src)) (is_revealed f.reveals (As p.src.asn)) (find (is_uncovered f p s) (range_with_len 0 (hop_count s.packet)))
+      by (is_updated p.first) (is_revealed f.reveals (Host p.src)) (is_revealed f.reveals (As p.src.asn)) (find (is_uncovered f p s) (range_with_len 0 (hop_count s.packet)))
       refl refl refl refl e
     where
-      by : (l h a : Bool) (o : Option ℕ) → is_level 3 p.first ≡ l → is_revealed f.reveals (Host p.src) ≡ h → is_revealed f.reveals (As p.src.asn) ≡ a
+      by : (l h a : Bool) (o : Option ℕ) → is_updated p.first ≡ l → is_revealed f.reveals (Host p.src) ≡ h → is_revealed f.reveals (As p.src.asn) ≡ a
           → find (is_uncovered f p s) (range_with_len 0 (hop_count s.packet)) ≡ o
           → (if not l || (h || a) then None else option_map (sent_hop f s) o) ≡ None
           → ArePassed f p s
@@ -183,7 +185,7 @@ pub uncovered_hop : (f : Facts) (p : Contents) (s : Sent) (u : Uncovered) → se
 unfolding uncovered
 uncovered_hop f p s u sent e = uncovered_there f p s u (sym (ap (option_and_then (uncovered_in f p)) sent) ∙ e)
 
-pub all_covered : (f : Facts) (p : Contents) (s : Sent) → sent_as f.sends p ≡ Some s → uncovered f p ≡ None → is_level 3 p.first ≡ true → ArePassed f p s
+pub all_covered : (f : Facts) (p : Contents) (s : Sent) → sent_as f.sends p ≡ Some s → uncovered f p ≡ None → is_updated p.first ≡ true → ArePassed f p s
 unfolding uncovered
 all_covered f p s sent e level = none_uncovered f p s (sym (ap (option_and_then (uncovered_in f p)) sent) ∙ e) level
 

@@ -26,13 +26,15 @@ use Rattle.epic_ledger.specs.History.{History}
 use Rattle.epic_ledger.specs.Facts.{Facts, Sent, facts_of, sent_name}
 use Rattle.epic_ledger.specs.Lawful.{IsLawful}
 use Rattle.epic_ledger.specs.Queries.{is_send_of, send_of, same_path, is_pass_of}
-use Rattle.epic_audit.specs.Clauses.{is_level, sent_as, HopOk, DestOk}
+use Rattle.epic_num.specs.Levels.{is_updated}
+use Rattle.epic_audit.specs.Clauses.{sent_as, HopOk, DestOk}
 use Rattle.epic_audit.specs.Holds.{Holds, AtHop, AtDest}
 use Rattle.epic_audit.specs.Kept.{Kept, AreApart}
 use Rattle.epic_audit.specs.Laws.{IsAccepted, IsArrived}
 use Rattle.epic_audit.specs.Reveals.{is_revealed, least_step}
 use Rattle.epic_audit.specs.Searches.{first_sent, name_sent, if_alike, is_alike, is_passed, is_open, first_open, updated_lines, sent_lines, arrived_lines, hop_found, dest_found}
-use Rattle.epic_audit.specs.Verdicts.{no_name, is_uncovered, uncovered_in, uncovered, has_update, twin_pass, opened_or_forged, dest_lines, hop_verdict, dest_verdict, IsProved}
+use Rattle.epic_num.specs.Chains.{no_name}
+use Rattle.epic_audit.specs.Verdicts.{is_uncovered, uncovered_in, uncovered, has_update, twin_pass, opened_or_forged, dest_lines, hop_verdict, dest_verdict, IsProved}
 use Rattle.epic_audit.specs.declared.uncovered.Uncovered.{Uncovered}
 use Rattle.epic_audit.proofs.Arrivals.{sent_there}
 use Rattle.epic_audit.proofs.Decided.{is_send_of-Decides}
@@ -99,7 +101,7 @@ unfolding first_open uncovered_in is_open is_uncovered is_passed
 open_is f p s e =
     let names : (λ j. name_sent f p j) ≡ (λ j. sent_name f.issues s j) = λ i j. name_is f p s j e i in
     ap (λ (n : ℕ → Option HopName).
-    if◌then◌else◌ {A = Option Uncovered} (not (is_level 3 p.first) || (is_revealed f.reveals (Host p.src) || is_revealed f.reveals (As p.src.asn))) None
+    if◌then◌else◌ {A = Option Uncovered} (not (is_updated p.first) || (is_revealed f.reveals (Host p.src) || is_revealed f.reveals (As p.src.asn))) None
     (option_map (λ k. record { hop = k; name = unwrap_or (n k) no_name })
     (find (λ k. option_map_or (λ x. not (is_revealed f.reveals (As x.asn) || list_any (is_pass_of p.first x p.src p.ts k) f.passes)) (n k) false) (range_with_len 0 (hop_count s.packet)))))
     names

@@ -18,16 +18,17 @@ use Rattle.epic_layout.specs.Spelling.{path_bytes}
 use Rattle.epic_layout.proofs.HopPlaces.{places_are_one, neighbours_follow}
 use Rattle.epic_layout.proofs.OneSpelling.{paths_are_one}
 use Rattle.epic_topo.specs.Network.{Network}
-use Rattle.epic_keys.specs.Issues.{IssuesKept}
-use Rattle.epic_keys.specs.Tags.{link}
-use Rattle.epic_fields.specs.HopChecks.{hop_name, has_link}
+use Rattle.epic_fields.specs.Issues.{IssuesKept}
+use Rattle.epic_fields.specs.Tags.{link}
+use Rattle.epic_fields.specs.HopChecks.{hop_name, carries_link, has_link}
 use Rattle.epic_ledger.specs.Facts.{Facts, Pass, pass_name}
 use Rattle.epic_ledger.specs.Queries.{issue_of, is_on_path, same_path, chain_pass}
 use Rattle.epic_audit.specs.Clauses.{IsIssued, GoesOnFrom, higher, lower, IsChained}
 use Rattle.epic_audit.specs.Collided.{HaveOneLink}
 use Rattle.epic_audit.specs.Kept.{Kept, ArePackets, IsKeptPass}
 use Rattle.epic_audit.specs.Laws.{IsAccepted}
-use Rattle.epic_audit.specs.Verdicts.{no_name, is_child, parent_name, broken, broken_between, broken_chain}
+use Rattle.epic_num.specs.Chains.{no_name}
+use Rattle.epic_audit.specs.Verdicts.{is_child, parent_name, broken, broken_between, broken_chain}
 use Rattle.epic_audit.proofs.Finds.{found, any_there, none_there}
 use Rattle.epic_audit.proofs.Queries.{at_place, name_there, named_there, issued, unissued}
 use Rattle.epic_audit.proofs.Decided.{is_child-Decides}
@@ -71,7 +72,7 @@ some_position r j lt =
 -- where hop i follows hop j, it carries the link tag of hop j, where that is right
 pub linked_to : (t : Network) (z : HopName) (p : Contents) (i j : ℕ) → has_link t z p j ≡ true → successor (place p.route.segments j) j ≡ Some i
     → (body p.route i).link ≡ link t z
-unfolding has_link body
+unfolding has_link carries_link body
 linked_to t z p i j right next =
     (bytes_eq-Decides (hop p.route i).link (link t z)).0
     (sym (ap (λ (o : Option ℕ). option_map_or (λ s. bytes_eq (hop p.route s).link (link t z)) o true) next) ∙ right)

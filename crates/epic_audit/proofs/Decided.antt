@@ -10,7 +10,7 @@ use Rattle.epic_num.proofs.SameLaws.{same_as-Decides, same_host-Decides, same_na
 use Rattle.epic_layout.specs.Contents.{Contents}
 use Rattle.epic_layout.specs.Spelling.{path_bytes}
 use Rattle.epic_topo.specs.Network.{Network}
-use Rattle.epic_keys.specs.Tags.{sigma}
+use Rattle.epic_fields.specs.Tags.{sigma}
 use Rattle.epic_ledger.specs.Facts.{Sent, Pass, pass_name}
 use Rattle.epic_ledger.specs.Queries.{is_send_of, is_pass_of, same_path}
 use Rattle.epic_audit.specs.Clauses.{is_sent_like, is_sent_as}

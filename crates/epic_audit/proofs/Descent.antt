@@ -7,8 +7,8 @@ use Rattle.epic_num.specs.Chains.{Issue, issue_at, last_names}
 use Rattle.epic_num.specs.Same.{same_name}
 use Rattle.epic_num.proofs.SameLaws.{same_name-Decides}
 use Rattle.epic_topo.specs.Network.{Network}
-use Rattle.epic_keys.specs.Issues.{IssuesKept}
-use Rattle.epic_keys.specs.Tags.{link}
+use Rattle.epic_fields.specs.Issues.{IssuesKept}
+use Rattle.epic_fields.specs.Tags.{link}
 use Rattle.epic_audit.specs.Chain.{IsBrokenChain}
 use Rattle.epic_audit.proofs.Queries.{named_there}
 

@@ -24,24 +24,29 @@ use Rattle.epic_layout.specs.Spelling.{path_bytes, dest_message, SameDestContent
 use Rattle.epic_layout.proofs.Codes.{dest_messages}
 use Rattle.epic_layout.proofs.OneSpelling.{paths_are_one}
 use Rattle.epic_topo.specs.Network.{Network}
-use Rattle.epic_keys.specs.Tags.{sigma}
+use Rattle.epic_fields.specs.Tags.{sigma}
 use Rattle.epic_fields.specs.HopChecks.{hop_name}
 use Rattle.epic_fields.specs.PacketTags.{field_name, dest_name, update_of}
 use Rattle.epic_ledger.specs.Facts.{Facts, Sent, Pass, pass_name}
-use Rattle.epic_audit.specs.Clauses.{is_level, sent_as, DestOk}
+use Rattle.epic_num.specs.Levels.{is_updated}
+use Rattle.epic_audit.specs.Clauses.{sent_as, DestOk}
 use Rattle.epic_audit.specs.Collided.{HaveOneSigma}
 use Rattle.epic_audit.specs.Forged.{IsForgedUpdate}
 use Rattle.epic_audit.specs.Holds.{HoldsOfDest}
 use Rattle.epic_audit.specs.Kept.{Kept, ArePackets}
 use Rattle.epic_audit.specs.Laws.{IsArrived, DestVerdictsHold}
-use Rattle.epic_audit.specs.Made.{hop_message, IsMadeDest, IsGivenOut, sent_updates, own_updates}
+use Rattle.epic_fields.specs.PacketTags.{hop_message}
+use Rattle.epic_audit.specs.Made.{IsMadeDest, IsGivenOut, sent_updates}
+use Rattle.epic_layout.specs.Updates.{own_updates}
 use Rattle.epic_audit.specs.Reveals.{IsRevealed, NoneRevealed, least_step}
 use Rattle.epic_audit.specs.declared.uncovered.Uncovered.{Uncovered}
 use Rattle.epic_audit.specs.Verdicts.{uncovered, has_update, twin_pass, opened_or_forged, dest_lines, dest_verdict, IsProved}
 use Rattle.epic_audit.proofs.Arrivals.{SentThere, sent_there, sent_found, IsUncovered, uncovered_hop, all_covered, not_ok_uncovered, not_ok_unsent, twin_there, no_twin_there}
+use Rattle.epic_num.proofs.LevelLaws.{updated_tagged}
+use Rattle.epic_fields.proofs.Stamps.{tags_stamp}
 use Rattle.epic_audit.proofs.FieldTags.{same_message}
 use Rattle.epic_audit.proofs.Queries.{least_there, least_missing}
-use Rattle.epic_audit.proofs.UpdateLaws.{tagged_at_3, sent_are_updates, sent_update_at, own_are_updates, own_update_at, same_update}
+use Rattle.epic_audit.proofs.UpdateLaws.{sent_are_updates, sent_update_at, own_are_updates, own_update_at}
 
 -- ---- parts
 
@@ -109,12 +114,12 @@ module _ (t : Network) (f : Facts) (p : Contents) (packets : ArePackets f) (kept
   made_update : is_tagged p.first ≡ true → (m : IsMade) (u : Uncovered) → IsUncovered f p m.send u → field p u.hop ≡ update_of t u.name p u.hop
   made_update tagged m u is =
       let same = same_content tagged m in
-      let level : is_level 3 m.send.packet.first ≡ true = ap (is_level 3) same.same_first ∙ is.level in
+      let level : is_updated m.send.packet.first ≡ true = ap is_updated same.same_first ∙ is.level in
       let inside : u.hop < hop_count p = subst (λ (r : Route). u.hop < length r.hops) same.same_route is.inside in
       sym (own_update_at p u.hop is.level inside)
       ∙ (ap (λ us. get_or us u.hop []) (sym same.same_updates)
       ∙ (sent_update_at t f.issues m.send u.hop u.name level is.inside is.named
-      ∙ same_update t u.name m.send.packet p u.hop same.same_first same.same_ts same.same_src))
+      ∙ (tags_stamp t u.name m.send.packet p u.hop (record { first = same.same_first; ts = same.same_ts; src = same.same_src })).update))
 
   -- ---- an update that was forged
 
@@ -134,7 +139,7 @@ module _ (t : Network) (f : Facts) (p : Contents) (packets : ArePackets f) (kept
   not_given_out s u tagged is none given =
       let w = given.pass in
       let packet = packets.passed given.index w given.there in
-      let same = same_message t (pass_name w) u.name w.packet p w.hop u.hop packet arrived.packet (tagged_at_3 w.packet.first packet.exists given.level) tagged given.message_is in
+      let same = same_message t (pass_name w) u.name w.packet p w.hop u.hop packet arrived.packet (updated_tagged w.packet.first packet.exists given.level) tagged given.message_is in
       no_twin_there t f p u none given.index w given.there
       (record {
         asn_is = pass_asn w ∙ given.asn_is;

@@ -7,14 +7,14 @@ use Rattle.std.proofs.lemmas.Option.{same_Some, slice_get_within, get_or_from_sl
 use Rattle.epic_num.specs.Chains.{Issue}
 use Rattle.epic_layout.specs.Contents.{Contents, IsPacket}
 use Rattle.epic_layout.specs.Layout.{parse}
-use Rattle.epic_layout.proofs.OneSpelling.{spellings_are_one}
 use Rattle.epic_ledger.specs.History.{History, Emission, emission_at}
 use Rattle.epic_ledger.specs.Facts.{Facts, Sent, Pass, packet_at, as_issue, as_send, as_pass, as_reveal, issues_in, facts_of}
 use Rattle.epic_ledger.specs.Lawful.{IsEmission, Fits}
 use Rattle.epic_ledger.specs.declared.event.Event.{Event}
 use Rattle.epic_ledger.specs.declared.event.Event.TheVariants as event
 use Rattle.epic_ledger.proofs.Growing.{emission_at-zero, emission_at-suc, packet_at-append, lawful_push, lawful_emit}
-use Rattle.epic_audit.specs.Events.{with_event, EventsAreLawful, EmissionsAddNothing, EmissionsAreLawful, LawfulPackets}
+use Rattle.epic_ledger.specs.OneMore.{with_event}
+use Rattle.epic_audit.specs.Events.{EventsAreLawful, EmissionsAddNothing, EmissionsAreLawful, LawfulPackets}
 use Rattle.epic_audit.proofs.Lists.{same_answers, answered, one_more, none_more}
 
 pub events_are_lawful : EventsAreLawful
@@ -118,7 +118,7 @@ unfolding packet_at
 emission_is es n all some =
     elim (emission_at es n) as (λ o. emission_at es n ≡ o → IsSome o → IsPacket (parse (option_map_or (λ e. e.bytes) o []))) [
       | None ↦ λ e s. absurd (cc)
-      | Some x ↦ λ e s. (let is = spelled es n x all e in (spellings_are_one x.bytes (parse x.bytes) is.bytes (record { faultless = is.faultless; says = refl })).0)
+      | Some x ↦ λ e s. (spelled es n x all e).packet
     ] refl some
   where
     spelled : (xs : List Emission) (m : ℕ) (x : Emission) → All IsEmission xs → emission_at xs m ≡ Some x → IsEmission x

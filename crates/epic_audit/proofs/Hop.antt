@@ -23,11 +23,13 @@ use Rattle.epic_audit.specs.Collided.{HaveOneLink}
 use Rattle.epic_audit.specs.Holds.{HoldsOfHop}
 use Rattle.epic_audit.specs.Kept.{Kept, ArePackets}
 use Rattle.epic_audit.specs.Laws.{HopVerdictsHold}
-use Rattle.epic_audit.specs.Made.{hop_message, IsMadeField}
+use Rattle.epic_fields.specs.PacketTags.{hop_message}
+use Rattle.epic_audit.specs.Made.{IsMadeField}
 use Rattle.epic_audit.specs.Reveals.{reveal_step, least_step}
 use Rattle.epic_audit.specs.Verdicts.{twin_issue, broken_chain, source_of, twin_sent, hop_lines, hop_verdict, IsProved}
 use Rattle.epic_audit.proofs.Chained.{chained, not_chained, collided_in_chain}
-use Rattle.epic_audit.proofs.FieldTags.{right_field, tagged_field, same_message}
+use Rattle.epic_fields.proofs.Stamps.{field_of-tagged}
+use Rattle.epic_audit.proofs.FieldTags.{right_field, same_message}
 use Rattle.epic_audit.proofs.Queries.{issued, unissued, revealed, unrevealed, least_there, least_missing, sourced, unsourced}
 use Rattle.epic_audit.proofs.Decided.{is_sent_like-Decides, is_twin-Decides}
 use Rattle.epic_audit.proofs.Alike.{one_sigma, twin_issued, no_twin_issued, twin_was_sent, no_twin_sent}
@@ -124,7 +126,7 @@ module _ (t : Network) (f : Facts) (x : HopName) (p : Contents) (j : ℕ) (packe
         no_provenance = λ ok. unsourced f x p j es (ok.sourced et);
         forged = record {
           tagged = et;
-          field_is = right_field t x p j right ∙ tagged_field t x p j et;
+          field_is = right_field t x p j right ∙ field_of-tagged t x p j et;
           not_made = not_made et en;
           not_revealed = least_missing f.reveals (holders (field_name t x.asn p)) eo;
         };

@@ -13,10 +13,11 @@ use Rattle.epic_layout.specs.Contents.{hop_count}
 use Rattle.epic_layout.specs.Route.{place, position}
 use Rattle.epic_layout.specs.Spelling.{update_count}
 use Rattle.epic_topo.specs.Network.{Network}
-use Rattle.epic_keys.specs.Issues.{IsKept, IssuesKept}
+use Rattle.epic_fields.specs.Issues.{IsKept, IssuesKept}
 use Rattle.epic_fields.specs.PacketTags.{update_of, dest_field_of}
 use Rattle.epic_ledger.specs.History.{History}
-use Rattle.epic_ledger.specs.Facts.{Facts, Sent, Pass, Reveal, ancestor, sent_issue, sent_name, facts_of, issues_in}
+use Rattle.epic_ledger.specs.Facts.{Facts, Sent, Pass, Reveal, sent_issue, sent_name, facts_of, issues_in}
+use Rattle.epic_num.specs.Chains.{ancestor}
 use Rattle.epic_ledger.specs.Lawful.{Fits}
 use Rattle.epic_ledger.specs.declared.event.Event.{Event}
 use Rattle.epic_ledger.specs.declared.event.Event.TheVariants as event

@@ -8,18 +8,20 @@ use Rattle.epic_num.specs.declared.key_name.Holder.TheVariants.{As}
 use Rattle.epic_num.specs.declared.hop.HopName.{HopName}
 use Rattle.epic_num.specs.Chains.{Issue, issue_at, name_of, is_ended}
 use Rattle.epic_num.specs.Levels.{level_of}
+use Rattle.epic_num.specs.Same.{same_as}
 use Rattle.epic_num.proofs.ChainLaws.{issue_at-zero, issue_at-suc}
 use Rattle.epic_layout.specs.Contents.{Contents, field}
 use Rattle.epic_layout.specs.Route.{place, place_from, position, is_first, is_last, successor, ingress, egress, hop, body}
 use Rattle.epic_layout.specs.Spelling.{dest_message}
 use Rattle.epic_topo.specs.declared.link_kind.LinkKind.TheVariants.{Parent}
 use Rattle.epic_topo.specs.Network.{has, neighbour}
-use Rattle.epic_keys.specs.Issues.{IsKept, IssuesKept}
-use Rattle.epic_keys.specs.Tags.{link}
+use Rattle.epic_fields.specs.Issues.{IsKept, IssuesKept}
+use Rattle.epic_fields.specs.Tags.{link}
 use Rattle.epic_fields.specs.Formulas.{dest_tag}
-use Rattle.epic_fields.specs.HopChecks.{has_link}
-use Rattle.epic_fields.specs.PacketTags.{field_name, dest_name, hop_tag, field_by, field_of, update_of, dest_field_of}
-use Rattle.epic_ledger.specs.Facts.{Facts, Sent, pass_name, ancestor, sent_issue, sent_name}
+use Rattle.epic_fields.specs.HopChecks.{carries_link, has_link}
+use Rattle.epic_fields.specs.PacketTags.{tag_over, field_by, field_over, update_over, field_name, dest_name, shared_key, field_of, update_of, dest_field_of}
+use Rattle.epic_ledger.specs.Facts.{Facts, Sent, pass_name, sent_issue, sent_name}
+use Rattle.epic_num.specs.Chains.{ancestor}
 use Rattle.epic_audit.specs.Kept.{IsKeptPass, PassesKept, IsKeptHop, IsKeptSend, AreApart, RevealsKept, Kept}
 use Rattle.epic_audit.specs.Made.{sent_update, sent_updates}
 use Rattle.epic_audit.proofs.VerdictExamples.{child, topology, first, next, packet, issue, send, pass, ledger, reveal}
@@ -50,7 +52,7 @@ facts = ledger issues (send whole 2 ∷ []) (pass (first 3) 0 whole ∷ pass x 1
 -- ---- issues
 
 first_kept : IsKept topology issues 1 (issue (first 3) 0)
-unfolding has neighbour
+unfolding same_as has neighbour
 first_kept = record {
   known = refl;
   egress = inr refl;
@@ -58,7 +60,7 @@ first_kept = record {
 }
 
 next_kept : IsKept topology issues 2 (issue x 1)
-unfolding has neighbour issue_at
+unfolding same_as has neighbour issue_at
 next_kept = record {
   known = refl;
   egress = inl refl;
@@ -83,7 +85,7 @@ issues_kept (suc (suc (suc n))) i e = let none = sym (issue_at-suc issues (suc (
 -- ---- accepted hops
 
 first_passed : IsKeptPass topology (pass (first 3) 0 whole)
-unfolding has has_link pass_name place place_from position successor is_first is_last ingress egress hop body
+unfolding same_as has has_link carries_link pass_name place place_from position successor is_first is_last ingress egress hop body
 first_passed = record {
   known = refl;
   within = omega arith;
@@ -93,7 +95,7 @@ first_passed = record {
 }
 
 next_passed : IsKeptPass topology (pass x 1 whole)
-unfolding has has_link pass_name place place_from position successor is_first is_last ingress egress hop body
+unfolding same_as has has_link carries_link pass_name place place_from position successor is_first is_last ingress egress hop body
 next_passed = record {
   known = refl;
   within = omega arith;
@@ -110,11 +112,11 @@ passes_kept (suc (suc n)) w e = absurd (cc)
 -- ---- sent packets
 
 first_hop : IsKeptHop topology issues (send whole 2) 0
-unfolding sent_name sent_issue ancestor issue_at name_of place place_from position body hop field field_of field_by hop_tag field_name level_of
+unfolding sent_name sent_issue ancestor issue_at name_of place place_from position body hop field field_of field_over field_by tag_over shared_key field_name level_of
 first_hop = record { name = first 3; named = refl; body_is = refl; field_is = refl }
 
 next_hop : IsKeptHop topology issues (send whole 2) 1
-unfolding sent_name sent_issue ancestor issue_at name_of place place_from position body hop field field_of field_by hop_tag field_name level_of
+unfolding sent_name sent_issue ancestor issue_at name_of place place_from position body hop field field_of field_over field_by tag_over shared_key field_name level_of
 next_hop = record { name = x; named = refl; body_is = refl; field_is = refl }
 
 hops_kept : (j : ℕ) → j < 2 → IsKeptHop topology issues (send whole 2) j
@@ -128,7 +130,7 @@ ended = refl
 
 -- the destination field rests on no field of the packet
 dest_field_is : whole.dest_field ≡ dest_field_of topology whole (sent_updates topology issues (send whole 2))
-unfolding dest_field_of dest_tag dest_message dest_name sent_updates sent_update sent_name sent_issue update_of hop_tag field_name
+unfolding dest_field_of dest_tag dest_message dest_name sent_updates sent_update sent_name sent_issue update_of update_over tag_over shared_key field_name
 dest_field_is = refl
 
 send_kept : IsKeptSend topology issues (send whole 2)

@@ -1,20 +1,20 @@
-mod Finds
+pub mod Finds
 pub mod Walked
 mod Narrowed
 pub mod Passed
 mod Before
-mod Decided
-mod Queries
-mod Chained
-mod Alike
+pub mod Decided
+pub mod Queries
+pub mod Chained
+pub mod Alike
 mod FieldTags
 mod Hop
-mod UpdateLaws
+pub mod UpdateLaws
 mod Arrivals
 mod Dest
 pub mod Growth
 pub mod Keeping
-mod Lists
+pub mod Lists
 mod Opened
 mod Calls
 mod Built

@@ -9,13 +9,13 @@ use Rattle.epic_num.specs.declared.key_name.Holder.TheVariants.{As, Host}
 use Rattle.epic_num.specs.Chains.{Issue, name_of}
 use Rattle.epic_layout.specs.Contents.{Contents, hop_count}
 use Rattle.epic_topo.specs.Network.{Network, has}
-use Rattle.epic_keys.specs.Issues.{IssuesKept}
+use Rattle.epic_fields.specs.Issues.{IssuesKept}
 use Rattle.epic_ledger.specs.Facts.{Facts, Sent, sent_issue, sent_name}
 use Rattle.epic_ledger.specs.Queries.{send_of}
-use Rattle.epic_audit.specs.Clauses.{is_level}
+use Rattle.epic_num.specs.Levels.{is_updated}
 use Rattle.epic_audit.specs.Reveals.{is_revealed}
 use Rattle.epic_audit.specs.Searches.{name_sent, is_passed, is_open, open_hop, first_open}
-use Rattle.epic_audit.specs.Verdicts.{no_name}
+use Rattle.epic_num.specs.Chains.{no_name}
 use Rattle.epic_audit.specs.declared.uncovered.Uncovered.{Uncovered}
 use Rattle.epic_audit.proofs.Arrivals.{range_within}
 use Rattle.epic_audit.proofs.Finds.{found}
@@ -60,7 +60,7 @@ known_open t f p i x kept e = by (send_of f.sends p.src p.ts) e
 pub open_at : (t : Network) (f : Facts) (p : Contents) (hops : ℕ) (u : Uncovered) → IssuesKept t f.issues → first_open f p hops ≡ Some u → OpenAt t u hops
 unfolding first_open
 open_at t f p hops u kept e =
-    by (not (is_level 3 p.first) || (is_revealed f.reveals (Host p.src) || is_revealed f.reveals (As p.src.asn))) (find (is_open f p) (range_with_len 0 hops)) refl e
+    by (not (is_updated p.first) || (is_revealed f.reveals (Host p.src) || is_revealed f.reveals (As p.src.asn))) (find (is_open f p) (range_with_len 0 hops)) refl e
   where
     by : (b : Bool) (o : Option ℕ) → find (is_open f p) (range_with_len 0 hops) ≡ o → (if b then None else option_map (open_hop f p) o) ≡ Some u → OpenAt t u hops
     by true o k h = absurd (cc)

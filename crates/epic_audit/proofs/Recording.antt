@@ -9,7 +9,8 @@ use Rattle.epic_ledger.specs.Facts.{issues_in, packet_at, facts_of}
 use Rattle.epic_ledger.specs.Lawful.{Fits, IsLawful}
 use Rattle.epic_ledger.specs.declared.event.Event.{Event}
 use Rattle.epic_ledger.proofs.Growing.{emission_at-suc}
-use Rattle.epic_audit.specs.Events.{EventFits, with_event, with_emission}
+use Rattle.epic_audit.specs.Events.{EventFits}
+use Rattle.epic_ledger.specs.OneMore.{with_event, with_emission}
 use Rattle.epic_audit.specs.Kept.{Kept}
 use Rattle.epic_audit.proofs.Growth.{emissions_add_nothing}
 use Rattle.epic_audit.proofs.Keeping.{events_keep}

@@ -1,56 +1,35 @@
 -- The updates that a destination field is made over.
-use Rattle.std.proofs.Common.{◌≡◌, ℕ, ◌<◌, ◌≤◌, Bool, true, false, List, [], length, get_or, take, drop, refl, ap, sym, ◌∙◌, subst, arith, length-drop, length-take-le, get_or-take}
-use Rattle.std.specs.Prelude.{Option, Some, nat_lt, map, if◌then◌else◌, ◌==◌, ◌||◌}
+use Rattle.std.proofs.Common.{◌≡◌, ℕ, ◌<◌, ◌≤◌, Bool, true, List, [], length, get_or, take, drop, ap, ◌∙◌, arith, length-drop, length-take-le, get_or-take}
+use Rattle.std.specs.Prelude.{Option, Some, nat_lt, map, if◌then◌else◌, ◌==◌}
 use Rattle.std.specs.List.{range_with_len}
 use Rattle.std.specs.Option.{option_map_or}
-use Rattle.std.proofs.lemmas.Bool.{cond_both, eqb-true}
+use Rattle.std.proofs.lemmas.Bool.{cond_both}
 use Rattle.std.proofs.lemmas.List.FromFn.{length-map-range_with_len, get_or-map-range_with_len}
 use Rattle.epic_cmac.proofs.CmacFacts.{length-cmac}
 use Rattle.epic_num.specs.declared.hop.HopName.{HopName}
 use Rattle.epic_num.specs.Chains.{Issue}
-use Rattle.epic_num.specs.Levels.{is_first_byte, is_tagged, level_of, level_number, width_of}
-use Rattle.epic_num.specs.Moments.{epoch_of}
-use Rattle.epic_num.specs.declared.key_name.KeyName.TheVariants.{Field}
+use Rattle.epic_num.specs.Levels.{level_of, level_number, width_of}
 use Rattle.epic_layout.specs.Contents.{Contents, IsPacket, field, hop_count}
 use Rattle.epic_layout.specs.Spelling.{AreUpdates, update_count}
 use Rattle.epic_topo.specs.Network.{Network}
-use Rattle.epic_keys.specs.Tags.{sigma, field_tag, update_part}
-use Rattle.epic_fields.specs.PacketTags.{field_name, hop_tag, update_of}
+use Rattle.epic_fields.specs.Formulas.{field23, update_part}
+use Rattle.epic_fields.specs.PacketTags.{tag_over, update_over, update_of}
 use Rattle.epic_ledger.specs.Facts.{Sent, sent_name}
-use Rattle.epic_audit.specs.Clauses.{is_level}
+use Rattle.epic_num.specs.Levels.{is_updated}
 use Rattle.epic_audit.specs.Kept.{IsKeptSend}
-use Rattle.epic_audit.specs.Made.{sent_update, sent_updates, own_updates}
+use Rattle.epic_audit.specs.Made.{sent_update, sent_updates}
+use Rattle.epic_layout.specs.Updates.{own_updates}
 
 -- ---- counts
 
 -- at level 3 each hop has an update
-pub count_at_3 : (first hops : ℕ) → is_level 3 first ≡ true → update_count first hops ≡ hops
-unfolding is_level update_count
+pub count_at_3 : (first hops : ℕ) → is_updated first ≡ true → update_count first hops ≡ hops
+unfolding is_updated update_count
 count_at_3 first hops e = ap (λ (b : Bool). if b then hops else 0) e
 
 count_within : (first hops : ℕ) → update_count first hops ≤ hops
 unfolding update_count
 count_within first hops = cond_both (level_number (level_of first) == 3) hops 0 (λ n. n ≤ hops) (λ e. omega arith) (λ e. omega arith)
-
--- a packet of level 3 has a destination field
-pub tagged_at_3 : (first : ℕ) → is_first_byte first ≡ true → is_level 3 first ≡ true → is_tagged first ≡ true
-unfolding is_level level_of level_number is_tagged is_first_byte
-tagged_at_3 first known level =
-    either (first == 0xE0) _ (λ e. at 0xE0 e (λ l. absurd (cc)))
-    (either (first == 0xE1) _ (λ e. at 0xE1 e (λ l. absurd (cc)))
-    (either (first == 0xE2) _ (λ e. at 0xE2 e (λ l. refl))
-    (either (first == 0xE3) _ (λ e. at 0xE3 e (λ l. refl))
-    (either (first == 0xF2) _ (λ e. at 0xF2 e (λ l. refl))
-    (either (first == 0xF3) false (λ e. at 0xF3 e (λ l. refl)) (λ e. absurd (cc)))))))
-    known level
-  where
-    either : (a b : Bool) → (a ≡ true → is_level 3 first ≡ true → is_tagged first ≡ true) → (b ≡ true → is_level 3 first ≡ true → is_tagged first ≡ true)
-        → (a || b) ≡ true → is_level 3 first ≡ true → is_tagged first ≡ true
-    either true b f g e = f refl
-    either false b f g e = g e
-
-    at : (n : ℕ) → (first == n) ≡ true → (is_level 3 n ≡ true → is_tagged n ≡ true) → is_level 3 first ≡ true → is_tagged first ≡ true
-    at n e f = subst (λ (m : ℕ). is_level 3 m ≡ true → is_tagged m ≡ true) (sym (eqb-true first n e)) f
 
 -- ---- widths
 
@@ -65,7 +44,7 @@ length-update_part first tag e =
     length-take-le (width_of first) (drop (width_of first) tag) (omega (arith, length-drop (width_of first) tag))
 
 length-update_of : (t : Network) (x : HopName) (p : Contents) (j : ℕ) → length (update_of t x p j) ≡ width_of p.first
-unfolding update_of hop_tag field_tag
+unfolding update_of update_over tag_over field23
 length-update_of t x p j = length-update_part p.first _ (length-cmac _ _)
 
 -- ---- those of a sent packet
@@ -91,7 +70,7 @@ sent_are_updates t issues s kept =
           ∙ length-update_of t hop.name s.packet k;
     }
 
-pub sent_update_at : (t : Network) (issues : List Issue) (s : Sent) (j : ℕ) (x : HopName) → is_level 3 s.packet.first ≡ true → j < hop_count s.packet
+pub sent_update_at : (t : Network) (issues : List Issue) (s : Sent) (j : ℕ) (x : HopName) → is_updated s.packet.first ≡ true → j < hop_count s.packet
     → sent_name issues s j ≡ Some x → get_or (sent_updates t issues s) j [] ≡ update_of t x s.packet j
 unfolding sent_updates
 sent_update_at t issues s j x level lt named =
@@ -114,17 +93,8 @@ own_are_updates p is =
           ap length (get_or-take (update_count p.first (hop_count p)) p.fields k d inside) ∙ is.fields k d (omega arith);
     }
 
-pub own_update_at : (p : Contents) (j : ℕ) → is_level 3 p.first ≡ true → j < hop_count p → get_or (own_updates p) j [] ≡ field p j
+pub own_update_at : (p : Contents) (j : ℕ) → is_updated p.first ≡ true → j < hop_count p → get_or (own_updates p) j [] ≡ field p j
 unfolding own_updates field
 own_update_at p j level lt =
     let count = count_at_3 p.first (hop_count p) level in
     get_or-take (update_count p.first (hop_count p)) p.fields j [] (omega arith)
-
--- ---- both
-
--- an update rests on the packet's first byte, timestamp and source alone
-pub same_update : (t : Network) (x : HopName) (p q : Contents) (j : ℕ) → p.first ≡ q.first → p.ts ≡ q.ts → p.src ≡ q.src
-    → update_of t x p j ≡ update_of t x q j
-unfolding update_of hop_tag field_name
-same_update t x p q j first ts src i =
-    update_part (first i) (field_tag t (Field x.asn (src i) (epoch_of t.profile (ts i))) (first i) (ts i) (src i) j (sigma t x))

@@ -24,11 +24,13 @@ use Rattle.epic_layout.specs.Spelling.{segment_bytes, hop_bytes, path_bytes}
 use Rattle.epic_topo.specs.declared.link_kind.LinkKind.TheVariants.{Parent}
 use Rattle.epic_topo.specs.Network.{Network}
 use Rattle.epic_keys.specs.Keys.{key, forwarding_key}
-use Rattle.epic_keys.specs.Tags.{sigma, hop_key}
-use Rattle.epic_fields.specs.PacketTags.{field_name, dest_name, hop_tag, update_of}
-use Rattle.epic_ledger.specs.Facts.{Facts, Sent, Pass, Reveal, pass_name, ancestor, sent_issue, sent_name}
+use Rattle.epic_fields.specs.Tags.{sigma, hop_key}
+use Rattle.epic_fields.specs.PacketTags.{tag_over, update_over, shared_key, field_name, dest_name, update_of}
+use Rattle.epic_ledger.specs.Facts.{Facts, Sent, Pass, Reveal, pass_name, sent_issue, sent_name}
+use Rattle.epic_num.specs.Chains.{ancestor}
 use Rattle.epic_ledger.specs.Queries.{issue_of, is_send_of, is_pass_of, same_path, is_on_path, chain_pass, reveal_of}
-use Rattle.epic_audit.specs.Clauses.{is_level, higher, lower, is_sent_like, is_sent_as, sent_as}
+use Rattle.epic_num.specs.Levels.{is_timed, is_updated}
+use Rattle.epic_audit.specs.Clauses.{higher, lower, is_sent_like, is_sent_as, sent_as}
 use Rattle.epic_audit.specs.Reveals.{is_revealed, reveal_step}
 use Rattle.epic_audit.specs.declared.uncovered.Uncovered.{Uncovered}
 use Rattle.epic_audit.proofs.Decided.{is_twin-Decides}
@@ -154,7 +156,7 @@ unfolding issue_of reveal_step reveal_of same_holder same_as
 unissued_opened = refl
 
 unissued_forged : hop_verdict topology (ledger [] [] [] []) x level3 1 ≡ Forged (record { kind = kind.Issue; hop = 1; key = Fwd child 0; generation = 0 })
-unfolding issue_of reveal_step reveal_of twin_issue is_level level_of level_number
+unfolding issue_of reveal_step reveal_of twin_issue is_timed is_updated level_of level_number
 unissued_forged = refl
 
 -- the last issue goes on from another first hop
@@ -181,7 +183,7 @@ unfolding issue_of same_name same_as same_host same_holder same_body broken_chai
 unsourced_forged = refl
 
 unissued_collided : hop_verdict topology (ledger (issue twin 0 ∷ []) [] [] []) x level3 1 ≡ Collided (record { part = Sigma; left = x; right = twin })
-unfolding issue_of same_name same_as same_body reveal_step reveal_of twin_issue is_level level_of level_number
+unfolding issue_of same_name same_as same_body reveal_step reveal_of twin_issue is_timed is_updated level_of level_number
 unissued_collided = rw are_twins refl
 
 unsourced_collided : hop_verdict topology (ledger (issue (first 3) 0 ∷ issue x 1 ∷ issue twin 1 ∷ []) (send level3 3 ∷ []) [] []) x level3 1
@@ -199,11 +201,11 @@ abbrev pub level2 : Contents
 level2 = packet tag 0xE2 []
 
 arrived_level2 : dest_verdict topology (ledger chain (send level2 2 ∷ []) [] []) level2 ≡ Proved 0 1
-unfolding is_tagged sent_as is_sent_as is_sent_like is_send_of same_host same_as same_path path_bytes segment_bytes hop_bytes u16_bytes u32_bytes uncovered uncovered_in is_level level_of level_number
+unfolding is_tagged sent_as is_sent_as is_sent_like is_send_of same_host same_as same_path path_bytes segment_bytes hop_bytes u16_bytes u32_bytes uncovered uncovered_in is_timed is_updated level_of level_number
 arrived_level2 = refl
 
 arrived : dest_verdict topology (ledger chain (send level3 2 ∷ []) (pass (first 3) 0 level3 ∷ pass x 1 level3 ∷ []) []) level3 ≡ Proved 0 1
-unfolding is_tagged sent_as is_sent_as is_sent_like is_send_of same_host same_as same_path path_bytes segment_bytes hop_bytes u16_bytes u32_bytes uncovered uncovered_in is_level level_of level_number is_revealed reveal_of is_uncovered sent_name sent_issue ancestor issue_at name_of place place_from position is_pass_of same_name same_body pass_name body hop
+unfolding is_tagged sent_as is_sent_as is_sent_like is_send_of same_host same_as same_path path_bytes segment_bytes hop_bytes u16_bytes u32_bytes uncovered uncovered_in is_timed is_updated level_of level_number is_revealed reveal_of is_uncovered sent_name sent_issue ancestor issue_at name_of place place_from position is_pass_of same_name same_body pass_name body hop
 arrived = refl
 
 unsent_opened : dest_verdict topology (ledger [] [] [] (reveal (Host dst) 5 ∷ [])) level3 ≡ Opened 5
@@ -222,15 +224,15 @@ abbrev pub at_first : Uncovered
 at_first = record { hop = 0; name = first 3 }
 
 updated_there : has_update topology updated at_first ≡ true
-unfolding has_update update_of hop_tag field_name field
+unfolding has_update update_of update_over tag_over shared_key field_name field
 updated_there = (bytes_eq-Decides (field updated 0) (update_of topology (first 3) updated 0)).1 refl
 
 not_given_out : dest_verdict topology (ledger chain (send level3 2 ∷ []) [] []) updated
     ≡ Forged (record { kind = kind.Update; hop = 0; key = Field parent src 6; generation = 0 })
-unfolding is_tagged sent_as is_sent_as is_sent_like is_send_of same_host same_as same_path path_bytes segment_bytes hop_bytes u16_bytes u32_bytes uncovered uncovered_in is_level level_of level_number is_revealed reveal_of is_uncovered sent_name sent_issue ancestor issue_at name_of place place_from position twin_pass field_name epoch_of
+unfolding is_tagged sent_as is_sent_as is_sent_like is_send_of same_host same_as same_path path_bytes segment_bytes hop_bytes u16_bytes u32_bytes uncovered uncovered_in is_timed is_updated level_of level_number is_revealed reveal_of is_uncovered sent_name sent_issue ancestor issue_at name_of place place_from position twin_pass field_name epoch_of
 not_given_out = rw updated_there refl
 
 given_out_for_twin : dest_verdict topology (ledger chain (send level3 2 ∷ []) (pass first_twin 0 level3 ∷ []) []) updated
     ≡ Collided (record { part = Sigma; left = first_twin; right = first 3 })
-unfolding is_tagged sent_as is_sent_as is_sent_like is_send_of same_host same_as same_path path_bytes segment_bytes hop_bytes u16_bytes u32_bytes uncovered uncovered_in is_level level_of level_number is_revealed reveal_of is_uncovered sent_name sent_issue ancestor issue_at name_of place place_from position is_pass_of same_name same_body pass_name body hop twin_pass is_twin_pass
+unfolding is_tagged sent_as is_sent_as is_sent_like is_send_of same_host same_as same_path path_bytes segment_bytes hop_bytes u16_bytes u32_bytes uncovered uncovered_in is_timed is_updated level_of level_number is_revealed reveal_of is_uncovered sent_name sent_issue ancestor issue_at name_of place place_from position is_pass_of same_name same_body pass_name body hop twin_pass is_twin_pass
 given_out_for_twin = rw (updated_there, are_first_twins) refl

@@ -16,7 +16,7 @@ use Rattle.epic_layout.specs.Laws.{hops_before}
 use Rattle.epic_layout.specs.Route.{Route, no_segment, place, successor, is_first, is_last, ingress, egress, body}
 use Rattle.epic_layout.proofs.OneSpelling.{paths_are_one}
 use Rattle.epic_topo.specs.Network.{Network}
-use Rattle.epic_keys.specs.Tags.{link}
+use Rattle.epic_fields.specs.Tags.{link}
 use Rattle.epic_ledger.specs.Facts.{Facts, Pass, pass_name}
 use Rattle.epic_audit.specs.Chain.{travelled, built, IsPassAt, ArePassesOf, IsWhole, ChainsAreWhole, IssuedChainsAreWhole}
 use Rattle.epic_audit.specs.Clauses.{IsIssued}

@@ -4,17 +4,13 @@ use Rattle.std.specs.Prelude.{◌≡◌, ◌⊎◌, ℕ, ◌-◌, ◌<◌, ◌==
 use Rattle.epic_num.specs.declared.hop.HopName.{HopName}
 use Rattle.epic_num.specs.declared.key_name.Holder.TheVariants.{As, Host}
 use Rattle.epic_num.specs.Chains.{Issue, issue_at, name_of}
-use Rattle.epic_num.specs.Levels.{level_of, level_number, is_tagged}
+use Rattle.epic_num.specs.Levels.{is_tagged, is_updated}
 use Rattle.epic_num.specs.Same.{same_host}
 use Rattle.epic_layout.specs.Contents.{Contents, hop_count}
 use Rattle.epic_layout.specs.Route.{place, is_first}
 use Rattle.epic_ledger.specs.Facts.{Facts, Sent, Pass, pass_name, sent_name}
 use Rattle.epic_ledger.specs.Queries.{is_send_of, same_path, chain_pass}
 use Rattle.epic_audit.specs.Reveals.{IsRevealed}
-
--- the packet's first byte says this level
-unfoldable pub is_level : ℕ → ℕ → Bool
-is_level number first = level_number (level_of first) == number
 
 -- ---- hops
 
@@ -102,4 +98,4 @@ ArePassed f p s =
 pub record DestOk (f : Facts) (p : Contents) : Type 0 where
   pub send : Sent
   pub sent : sent_as f.sends p ≡ Some send
-  pub passed : is_level 3 p.first ≡ true → ArePassed f p send
+  pub passed : is_updated p.first ≡ true → ArePassed f p send

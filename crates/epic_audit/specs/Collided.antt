@@ -2,7 +2,7 @@
 use Rattle.std.specs.Prelude.{◌≡◌, ◌≢◌}
 use Rattle.epic_num.specs.declared.hop.HopName.{HopName}
 use Rattle.epic_topo.specs.Network.{Network}
-use Rattle.epic_keys.specs.Tags.{sigma, link}
+use Rattle.epic_fields.specs.Tags.{sigma, link}
 
 -- two hops with one link tag
 pub record HaveOneLink (t : Network) (x y : HopName) : Type 0 where

@@ -3,8 +3,9 @@ use Rattle.std.specs.Prelude.{◌≡◌, ℕ, List, [], ◌∷◌, ◌++◌, Som
 use Rattle.epic_num.specs.Chains.{Issue}
 use Rattle.epic_layout.specs.Contents.{Contents}
 use Rattle.epic_topo.specs.Network.{Network}
-use Rattle.epic_keys.specs.Issues.{IsKept, IssuesKept}
+use Rattle.epic_fields.specs.Issues.{IsKept, IssuesKept}
 use Rattle.epic_ledger.specs.History.{History, Emission, step_of}
+use Rattle.epic_ledger.specs.OneMore.{with_event, with_emission}
 use Rattle.epic_ledger.specs.Facts.{Sent, packet_at, issues_in, sends_in, reveals_in, facts_of, sent_name}
 use Rattle.epic_ledger.specs.Lawful.{IsEmission, Fits, IsLast, IsLawful}
 use Rattle.epic_ledger.specs.declared.event.Event.{Event}
@@ -41,14 +42,6 @@ EventFits t h (event.Arrive step host src ts hops checked) = ⊤
 EventFits t h (event.Roll step a generation) = ⊤
 
 -- ---- laws
-
--- with one more event
-abbrev pub with_event : History → Event → History
-with_event h e = record h { events = h.events ++ e ∷ [] }
-
--- with one more emission
-abbrev pub with_emission : History → Emission → History
-with_emission h x = record h { emissions = h.emissions ++ x ∷ [] }
 
 -- a ledger begins with nothing, of which all is kept
 abbrev pub NothingIsKept : Type 0

@@ -1,6 +1,6 @@
 -- Forged tags: the tag that stands in the packet is right under a key, and no holder of the key made it. Here `x` is the
 -- name of hop j of the packet.
-use Rattle.std.specs.Prelude.{◌≡◌, ℕ, true, false, List, Some, slice_get}
+use Rattle.std.specs.Prelude.{◌≡◌, ℕ, true, List, Some, slice_get}
 use Rattle.epic_num.specs.declared.hop.HopName.{HopName}
 use Rattle.epic_num.specs.declared.key_name.Holder.TheVariants.{As}
 use Rattle.epic_num.specs.Chains.{Issue, issue_at}
@@ -10,11 +10,15 @@ use Rattle.epic_num.specs.Moments.{epoch_of}
 use Rattle.epic_layout.specs.Contents.{Contents, field}
 use Rattle.epic_layout.specs.Spelling.{path_bytes, dest_message}
 use Rattle.epic_topo.specs.Network.{Network}
-use Rattle.epic_keys.specs.Tags.{sigma, field_part}
+use Rattle.epic_fields.specs.Tags.{sigma}
+use Rattle.epic_fields.specs.Formulas.{field_part}
 use Rattle.epic_fields.specs.PacketTags.{field_name, dest_name, hop_tag, field_of, update_of, dest_field_of}
 use Rattle.epic_ledger.specs.Facts.{Facts, Sent, sent_name}
-use Rattle.epic_audit.specs.Clauses.{is_level, IsIssued}
-use Rattle.epic_audit.specs.Made.{hop_message, IsMadeField, IsMadeDest, IsGivenOut, own_updates}
+use Rattle.epic_num.specs.Levels.{is_updated, is_timed}
+use Rattle.epic_audit.specs.Clauses.{IsIssued}
+use Rattle.epic_fields.specs.PacketTags.{hop_message}
+use Rattle.epic_audit.specs.Made.{IsMadeField, IsMadeDest, IsGivenOut}
+use Rattle.epic_layout.specs.Updates.{own_updates}
 use Rattle.epic_audit.specs.Reveals.{IsRevealed, NoneRevealed}
 
 -- the field is that of a hop which its AS never issued; at levels 1 to 3 nobody was given the authenticator either
@@ -22,7 +26,7 @@ pub record IsForgedIssue (t : Network) (f : Facts) (x : HopName) (p : Contents) 
   pub not_issued : IsIssued f.issues x → ⊥
   pub not_revealed : IsRevealed f.reveals (As x.asn) → ⊥
   pub field_is : field p j ≡ field_of t x p j
-  pub not_given : is_level 0 p.first ≡ false → (number : ℕ) (i : Issue) → issue_at f.issues number ≡ Some i
+  pub not_given : is_timed p.first ≡ true → (number : ℕ) (i : Issue) → issue_at f.issues number ≡ Some i
       → i.name.asn ≡ x.asn → sigma t i.name ≡ sigma t x → ⊥
 
 -- the field is that of the packet and the hop, and its message was never sent
@@ -43,7 +47,7 @@ pub record IsOnlySend (sends : List Sent) (p : Contents) (s : Sent) : Type 0 whe
 
 -- the field is the update of a hop that the source sent the packet over, and no router of the hop's AS gave it out
 pub record IsForgedUpdate (t : Network) (f : Facts) (x : HopName) (p : Contents) (j : ℕ) : Type 0 where
-  pub level : is_level 3 p.first ≡ true
+  pub level : is_updated p.first ≡ true
   pub send : Sent
   pub only : IsOnlySend f.sends p send
   pub first_is : send.packet.first ≡ p.first

@@ -1,6 +1,6 @@
 -- The words of a forgery: what was forged, the name of the tag's key, what the tag is made over, and the tag as it
 -- stands in the packet.
-use Rattle.std.specs.Prelude.{ℕ, ◌==◌, ◌&&◌, Bool, true, false, List, [], ◌∷◌, codes, decimal, if◌then◌else◌}
+use Rattle.std.specs.Prelude.{ℕ, ◌&&◌, Bool, true, false, List, [], ◌∷◌, codes, decimal, if◌then◌else◌}
 use Rattle.std.specs.List.{join_with_byte}
 use Rattle.hex.specs.Hex.{encode_lower}
 use Rattle.epic_num.specs.declared.hop.HopName.{HopName}
@@ -11,7 +11,7 @@ use Rattle.epic_num.specs.declared.key_name.KeyName.TheVariants as keys
 use Rattle.epic_num.specs.declared.verdict.ForgedKind.{ForgedKind}
 use Rattle.epic_num.specs.declared.verdict.ForgedKind.TheVariants.{Issue, Field, Update, Dest}
 use Rattle.epic_num.specs.declared.verdict.Forgery.{Forgery}
-use Rattle.epic_num.specs.Levels.{is_tagged, level_of, level_number}
+use Rattle.epic_num.specs.Levels.{is_tagged, is_updated, level_of}
 use Rattle.epic_num.specs.Messages.{authenticator_message, field1_message}
 use Rattle.epic_num.specs.Names.{as_text, host_text}
 use Rattle.epic_layout.specs.Contents.{Contents, field}
@@ -21,7 +21,8 @@ use Rattle.epic_topo.specs.Network.{Network}
 use Rattle.epic_keys.specs.Keys.{owner}
 use Rattle.epic_fields.specs.HopChecks.{hop_name}
 use Rattle.epic_fields.specs.PacketTags.{field_name}
-use Rattle.epic_audit.specs.Made.{hop_message, own_updates}
+use Rattle.epic_fields.specs.PacketTags.{hop_message}
+use Rattle.epic_layout.specs.Updates.{own_updates}
 
 -- words with a space between two
 abbrev pub words_text : List (List ℕ) → List ℕ
@@ -50,7 +51,7 @@ unfoldable pub fits_level : ForgedKind → ℕ → Bool
 fits_level Issue first = true
 fits_level Field first = is_tagged first
 fits_level Dest first = is_tagged first
-fits_level Update first = is_tagged first && level_number (level_of first) == 3
+fits_level Update first = is_tagged first && is_updated first
 
 -- ---- the hop
 

@@ -21,7 +21,8 @@ use Rattle.epic_fields.specs.HopChecks.{hop_name}
 use Rattle.epic_fields.specs.PacketTags.{field_name, dest_name}
 use Rattle.epic_ledger.specs.Facts.{Facts}
 use Rattle.epic_ledger.specs.Queries.{issue_of}
-use Rattle.epic_audit.specs.Clauses.{is_level, IsIssued, IsChained, IsSourced, HopOk, sent_as, DestOk}
+use Rattle.epic_num.specs.Levels.{is_timed}
+use Rattle.epic_audit.specs.Clauses.{IsIssued, IsChained, IsSourced, HopOk, sent_as, DestOk}
 use Rattle.epic_audit.specs.Collided.{HaveOneLink, HaveOneSigma}
 use Rattle.epic_audit.specs.Forged.{IsForgedIssue, IsForgedField, IsForgedUpdate, IsForgedDest}
 use Rattle.epic_audit.specs.Reveals.{IsRevealedAt}
@@ -72,7 +73,7 @@ HopForged t f x p j r kind.Dest = ⊥
 -- the hop wasn't issued, and the first issue with its authenticator, at levels 1 to 3, is that of the right name
 pub record CollidedWithIssue (t : Network) (f : Facts) (x : HopName) (p : Contents) (c : Collision) : Type 0 where
   pub not_issued : IsIssued f.issues x → ⊥
-  pub level : is_level 0 p.first ≡ false
+  pub level : is_timed p.first ≡ true
   pub left_is : c.left ≡ x
   pub right_is : twin_issue t f x p ≡ Some c.right
   pub collided : HaveOneSigma t c.left c.right

@@ -6,7 +6,7 @@ use Rattle.epic_num.specs.Levels.{is_tagged}
 use Rattle.epic_layout.specs.Contents.{IsPacket, field, hop_count}
 use Rattle.epic_layout.specs.Route.{place, is_first, is_last, ingress, egress, body}
 use Rattle.epic_topo.specs.Network.{Network, has}
-use Rattle.epic_keys.specs.Issues.{IssuesKept}
+use Rattle.epic_fields.specs.Issues.{IssuesKept}
 use Rattle.epic_fields.specs.HopChecks.{has_link}
 use Rattle.epic_fields.specs.PacketTags.{field_of, dest_field_of}
 use Rattle.epic_ledger.specs.Facts.{Facts, Sent, Pass, Reveal, pass_name, sent_name}

@@ -10,7 +10,7 @@ use Rattle.epic_ledger.specs.Facts.{Facts}
 use Rattle.epic_audit.specs.Clauses.{HopOk, DestOk}
 use Rattle.epic_audit.specs.Holds.{Holds, AtHop, AtDest}
 use Rattle.epic_audit.specs.Kept.{Kept, ArePackets}
-use Rattle.epic_audit.specs.Made.{own_updates}
+use Rattle.epic_layout.specs.Updates.{own_updates}
 use Rattle.epic_audit.specs.Verdicts.{hop_verdict, dest_verdict, IsProved}
 
 -- the router of the AS accepted hop j of the packet under a generation of its key: both tags were right

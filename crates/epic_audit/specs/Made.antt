@@ -1,6 +1,6 @@
 -- What the holders of keys made: the messages of fields and destination fields that a source sent tags of, and those that
 -- routers gave out updates of.
-use Rattle.std.specs.Prelude.{◌≡◌, ℕ, true, List, [], map, take, slice_get, Some}
+use Rattle.std.specs.Prelude.{◌≡◌, ℕ, true, List, [], map, slice_get, Some}
 use Rattle.std.specs.List.{range_with_len}
 use Rattle.std.specs.Option.{option_map_or}
 use Rattle.epic_num.specs.declared.hop.HopName.{HopName}
@@ -8,19 +8,13 @@ use Rattle.epic_num.specs.declared.name.AsId.{AsId}
 use Rattle.epic_num.specs.declared.name.HostId.{HostId}
 use Rattle.epic_num.specs.Chains.{Issue}
 use Rattle.epic_num.specs.Levels.{is_tagged}
-use Rattle.epic_num.specs.Messages.{field23_message}
 use Rattle.epic_num.specs.Moments.{epoch_of}
-use Rattle.epic_layout.specs.Contents.{Contents, hop_count}
+use Rattle.epic_layout.specs.Contents.{hop_count}
 use Rattle.epic_layout.specs.Spelling.{dest_message, update_count}
 use Rattle.epic_topo.specs.Network.{Network}
-use Rattle.epic_keys.specs.Tags.{sigma}
-use Rattle.epic_fields.specs.PacketTags.{update_of}
+use Rattle.epic_fields.specs.PacketTags.{hop_message, update_of}
 use Rattle.epic_ledger.specs.Facts.{Facts, Sent, Pass, pass_name, sent_name}
-use Rattle.epic_audit.specs.Clauses.{is_level}
-
--- the message of a hop's tag at levels 2 and 3, where hop j of the packet has this name
-unfoldable pub hop_message : Network → HopName → Contents → ℕ → List ℕ
-hop_message t x p j = field23_message p.first p.ts p.src j (sigma t x)
+use Rattle.epic_num.specs.Levels.{is_updated}
 
 -- the source at hand sent, in this epoch, a packet of level 2 or 3 over a hop of this AS, for which this is the message
 pub record IsMadeField (t : Network) (f : Facts) (asn : AsId) (src : HostId) (epoch : ℕ) (message : List ℕ) : Type 0 where
@@ -45,10 +39,6 @@ unfoldable pub sent_updates : Network → List Issue → Sent → List (List ℕ
 sent_updates t issues s =
     map (sent_update t issues s) (range_with_len 0 (update_count s.packet.first (hop_count s.packet)))
 
--- those over which a destination checks it: at level 3 the packet's own fields, none at level 2
-unfoldable pub own_updates : Contents → List (List ℕ)
-own_updates p = take (update_count p.first (hop_count p)) p.fields
-
 -- the source sent, in this epoch, a packet of level 2 or 3 to this destination, for which this is the message
 pub record IsMadeDest (t : Network) (f : Facts) (dst src : HostId) (epoch : ℕ) (message : List ℕ) : Type 0 where
   pub index : ℕ
@@ -67,6 +57,6 @@ pub record IsGivenOut (t : Network) (passes : List Pass) (asn : AsId) (src : Hos
   pub there : slice_get passes index ≡ Some pass
   pub asn_is : pass.asn ≡ asn
   pub src_is : pass.packet.src ≡ src
-  pub level : is_level 3 pass.packet.first ≡ true
+  pub level : is_updated pass.packet.first ≡ true
   pub epoch_is : epoch_of t.profile pass.packet.ts ≡ epoch
   pub message_is : hop_message t (pass_name pass) pass.packet pass.hop ≡ message

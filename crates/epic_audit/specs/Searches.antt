@@ -1,3 +1,4 @@
+-- Private: serves proofs of this crate alone; no public contract cites it.
 -- What the calls look for on the way to a verdict, by the ledger's own answers.
 use Rattle.std.specs.Prelude.{ℕ, ◌-◌, ◌==◌, ◌&&◌, ◌||◌, not, Bool, true, false, List, [], ◌∷◌, Option, None, Some, find, option_map, option_and_then, unwrap_or, bytes_eq, if◌then◌else◌, ⊤}
 use Rattle.std.specs.List.{list_any, range_with_len}
@@ -22,10 +23,11 @@ use Rattle.epic_ledger.specs.Facts.{Facts, as_pass, pass_name, sent_name}
 use Rattle.epic_ledger.specs.History.{Emission}
 use Rattle.epic_ledger.specs.Lawful.{FitsPass}
 use Rattle.epic_ledger.specs.Queries.{issue_of, send_of, is_pass_of, same_path, chain_pass}
-use Rattle.epic_audit.specs.Clauses.{is_level}
+use Rattle.epic_num.specs.Levels.{is_updated}
 use Rattle.epic_fields.specs.PacketTags.{field_name, dest_name}
 use Rattle.epic_audit.specs.Reveals.{is_revealed, reveal_step, least_step}
-use Rattle.epic_audit.specs.Verdicts.{no_name, is_named, is_twin, is_twin_pass, twin_issue, broken_chain, has_update, twin_pass, opened_or_forged}
+use Rattle.epic_num.specs.Chains.{no_name}
+use Rattle.epic_audit.specs.Verdicts.{is_named, is_twin, is_twin_pass, twin_issue, broken_chain, has_update, twin_pass, opened_or_forged}
 use Rattle.epic_audit.specs.declared.uncovered.Uncovered.{Uncovered}
 
 -- ---- what p's source first sent with p's timestamp
@@ -83,7 +85,7 @@ open_hop f p i = record { hop = i; name = unwrap_or (name_sent f p i) no_name }
 -- at level 3, from a source that wasn't revealed, the first of so many hops that is open
 unfoldable pub first_open : Facts → Contents → ℕ → Option Uncovered
 first_open f p hops =
-    if not (is_level 3 p.first) || (is_revealed f.reveals (Host p.src) || is_revealed f.reveals (As p.src.asn)) then None
+    if not (is_updated p.first) || (is_revealed f.reveals (Host p.src) || is_revealed f.reveals (As p.src.asn)) then None
     else option_map (open_hop f p) (find (is_open f p) (range_with_len 0 hops))
 
 -- ---- accepted hops

@@ -1,6 +1,6 @@
 -- The verdicts, each a table by what the ledger answers. The first line that fits decides; where a line doesn't look at an
 -- answer, a variable stands.
-use Rattle.std.specs.Prelude.{ℕ, ◌-◌, ◌&&◌, ◌||◌, ◌==◌, not, Bool, true, false, List, replicate, Option, Some, None, find, option_map, option_and_then, unwrap_or, bytes_eq, if◌then◌else◌}
+use Rattle.std.specs.Prelude.{ℕ, ◌-◌, ◌&&◌, ◌||◌, ◌==◌, not, Bool, true, false, List, Option, Some, None, find, option_map, option_and_then, unwrap_or, bytes_eq, if◌then◌else◌}
 use Rattle.std.specs.List.{list_any, range_with_len}
 use Rattle.std.specs.Option.{option_map_or}
 use Rattle.epic_num.specs.declared.hop.HopName.{HopName}
@@ -11,28 +11,21 @@ use Rattle.epic_num.specs.declared.verdict.ForgedKind.TheVariants as kind
 use Rattle.epic_num.specs.declared.verdict.Part.TheVariants.{Link, Sigma}
 use Rattle.epic_num.specs.declared.verdict.Verdict.{Verdict}
 use Rattle.epic_num.specs.declared.verdict.Verdict.TheVariants.{Proved, Unclaimed, Opened, Forged, Collided}
-use Rattle.epic_num.specs.Chains.{Issue, issue_at, name_of}
+use Rattle.epic_num.specs.Chains.{Issue, issue_at, name_of, no_name}
 use Rattle.epic_num.specs.Holders.{holders}
 use Rattle.epic_num.specs.Levels.{is_tagged}
 use Rattle.epic_num.specs.Same.{same_as, same_name, same_host}
 use Rattle.epic_layout.specs.Contents.{Contents, field, hop_count}
 use Rattle.epic_layout.specs.Route.{place, is_first}
 use Rattle.epic_topo.specs.Network.{Network}
-use Rattle.epic_keys.specs.Tags.{sigma}
+use Rattle.epic_fields.specs.Tags.{sigma}
 use Rattle.epic_fields.specs.PacketTags.{field_name, dest_name, update_of}
 use Rattle.epic_ledger.specs.Facts.{Facts, Sent, Pass, pass_name, sent_name}
 use Rattle.epic_ledger.specs.Queries.{issue_of, is_pass_of, chain_pass}
-use Rattle.epic_audit.specs.Clauses.{is_level, higher, lower, is_sent_like, sent_as}
+use Rattle.epic_num.specs.Levels.{is_updated, is_timed}
+use Rattle.epic_audit.specs.Clauses.{higher, lower, is_sent_like, sent_as}
 use Rattle.epic_audit.specs.declared.uncovered.Uncovered.{Uncovered}
 use Rattle.epic_audit.specs.Reveals.{is_revealed, reveal_step, least_step}
-
--- what stands in the place of a hop that isn't there
-abbrev pub no_name : HopName
-no_name = record {
-  asn = record { 0 = 0 };
-  generation = 0;
-  body = record { pos = 0; exp = 0; ts_path = 0; inn = 0; out = 0; link = replicate 8 0 };
-}
 
 -- a name was found, and is x
 abbrev pub is_named : HopName → Option HopName → Bool
@@ -47,7 +40,7 @@ is_twin t x y = same_as y.asn x.asn && bytes_eq (sigma t y) (sigma t x)
 -- at levels 1 to 3, the name of the first issue that is
 unfoldable pub twin_issue : Network → Facts → HopName → Contents → Option HopName
 twin_issue t f x p =
-    if is_level 0 p.first then None else option_map (λ i. i.name) (find (λ i. is_twin t x i.name) f.issues)
+    if is_timed p.first then option_map (λ i. i.name) (find (λ i. is_twin t x i.name) f.issues) else None
 
 -- the issue is of y, and goes on from one of z
 unfoldable pub is_child : List Issue → HopName → HopName → Issue → Bool
@@ -136,7 +129,7 @@ is_uncovered f p s i =
 -- at level 3, from a source that wasn't revealed, the first hop of the sent packet that isn't covered
 unfoldable pub uncovered_in : Facts → Contents → Sent → Option Uncovered
 uncovered_in f p s =
-    if not (is_level 3 p.first) || (is_revealed f.reveals (Host p.src) || is_revealed f.reveals (As p.src.asn)) then None
+    if not (is_updated p.first) || (is_revealed f.reveals (Host p.src) || is_revealed f.reveals (As p.src.asn)) then None
     else option_map (sent_hop f s) (find (is_uncovered f p s) (range_with_len 0 (hop_count s.packet)))
 
 unfoldable pub uncovered : Facts → Contents → Option Uncovered

@@ -1,15 +1,16 @@
 //! Searches among the hops that routers accepted.
 ghost use Rattle.std.specs.Prelude.{◌≡◌, ◌+◌, ◌<◌, ◌∷◌, length, drop, IsTrue, IsSome};
 ghost use Rattle.epic_topo.specs.Network.{has};
-ghost use Rattle.epic_keys.specs.Tags as tags;
+ghost use Rattle.epic_fields.specs.Tags as tags;
 ghost use Rattle.epic_ledger.specs.Facts.{packet_at};
 ghost use Rattle.epic_ledger.specs.History.{emission_at};
 ghost use Rattle.epic_ledger.specs.Lawful.{IsLawful};
 ghost use Rattle.epic_audit.specs.Searches as searches;
 ghost use Rattle.epic_audit.specs.Searches.{PassFits, find_map};
 
-use crate::twins::{is_twin, sigma};
+use crate::twins::is_twin;
 use crate::uncovered::Uncovered;
+use epic_fields::sigma;
 use epic_ledger::{Event, Ledger};
 use epic_num::{HopName, same_host};
 use epic_topo::Topology;

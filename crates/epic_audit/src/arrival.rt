@@ -10,17 +10,18 @@ ghost use Rattle.epic_num.specs.Holders.{holders};
 ghost use Rattle.epic_audit.specs.Clauses.{DestOk};
 ghost use Rattle.epic_audit.specs.Holds.{Holds, AtDest};
 ghost use Rattle.epic_audit.specs.Kept.{Kept};
-ghost use Rattle.epic_audit.specs.Made.{own_updates};
+ghost use Rattle.epic_layout.specs.Updates.{own_updates};
 ghost use Rattle.epic_audit.specs.Reveals as reveals;
 ghost use Rattle.epic_audit.specs.Searches as searches;
 ghost use Rattle.epic_audit.specs.Verdicts as verdicts;
 ghost use Rattle.epic_audit.specs.Verdicts.{IsProved};
 
 use crate::accepted::first_twin;
-use crate::naming::{dest_name, field_name, opened_at};
+use crate::naming::opened_at;
 use crate::sources::sent_as;
 use crate::uncovered::{Uncovered, first_open};
 use crate::updates::has_update;
+use epic_fields::{dest_name, field_name};
 use epic_ledger::Ledger;
 use epic_num::{Collision, ForgedKind, Forgery, Part, Verdict, is_tagged};
 use epic_topo::Topology;
@@ -67,7 +68,7 @@ fn updated(ledger: &Ledger, topo: &Topology, packet: &PacketRef<'_>, hop: &Uncov
 fn sent(ledger: &Ledger, topo: &Topology, packet: &PacketRef<'_>, number: u32, hops: u8) -> Verdict
     requires lawful { IsLawful ledger.now.history }
     requires kept { Kept topo.now (facts_of ledger.now.history) }
-    requires tagged { is_tagged packet.now.first ≡ true }
+    requires tagged { IsTrue (is_tagged packet.now.first) }
     requires hops { hops ≤ hop_count packet.now }
     ensures { result ≡ searches.sent_lines topo.now (facts_of ledger.now.history) packet.now number (searches.first_open (facts_of ledger.now.history) packet.now hops) }
 {
@@ -102,9 +103,9 @@ fn lines(ledger: &Ledger, topo: &Topology, packet: &PacketRef<'_>) -> Verdict
 pub fn verdict_dest(ledger: &Ledger, topo: &Topology, packet: &PacketRef<'_>) -> Verdict
     requires kept { Kept topo.now (facts_of ledger.now.history) }
     requires known { IsTrue (has topo.now packet.now.dst.asn) }
-    requires dest_field_right { is_tagged packet.now.first ≡ true → packet.now.dest_field ≡ dest_field_of topo.now packet.now (own_updates packet.now) }
+    requires dest_field_right { IsTrue (is_tagged packet.now.first) → packet.now.dest_field ≡ dest_field_of topo.now packet.now (own_updates packet.now) }
     ensures verdict { result ≡ verdicts.dest_verdict topo.now (facts_of ledger.now.history) packet.now }
-    ensures exact { IsProved result ↔ (is_tagged packet.now.first ≡ true) × DestOk (facts_of ledger.now.history) packet.now }
+    ensures exact { IsProved result ↔ IsTrue (is_tagged packet.now.first) × DestOk (facts_of ledger.now.history) packet.now }
     ensures holds { Holds topo.now (facts_of ledger.now.history) packet.now AtDest result }
 {
     let _events = ledger.events();

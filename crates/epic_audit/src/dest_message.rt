@@ -3,12 +3,12 @@
 ghost use Rattle.std.specs.Prelude.{◌≡◌, ◌++◌, ◌<◌, take, IfOk, IsTrue, OnOk};
 ghost use Rattle.std.specs.List.{concat, flat_map};
 ghost use Rattle.epic_num.specs.Levels.{is_tagged};
-ghost use Rattle.epic_num.specs.Messages.{dest_domain};
 ghost use Rattle.epic_layout.specs.Contents.{field, hop_count};
 ghost use Rattle.epic_layout.specs.Spelling as spelling;
 ghost use Rattle.epic_layout.specs.Spelling.{hop_bytes, path_bytes, segment_bytes};
-ghost use Rattle.epic_audit.specs.Made.{own_updates};
+ghost use Rattle.epic_layout.specs.Updates.{own_updates};
 
+use epic_fields::dest_domain;
 use epic_num::Level;
 use epic_view::PacketRef;
 use std::alloc::{AllocError, Global};
@@ -50,20 +50,6 @@ fn joined(alloc: Global, parts: &[&[u8]]) -> Result<Vec<u8>, AllocError>
     Ok(bytes)
 }
 
-/// The first byte of the message, by the packet's first byte.
-#[tactic(auto, unfolding(epic_num::specs::Messages::dest_domain, epic_num::specs::Levels::is_tagged))]
-fn dest_domain(first: u8) -> u8
-    requires { IsTrue (is_tagged first) }
-    ensures { result ≡ dest_domain first }
-{
-    match first {
-        0xE2 => 0x22,
-        0xE3 => 0x23,
-        0xF2 => 0x42,
-        _ => 0x43,
-    }
-}
-
 /// The path bytes: the number of segments, their headers, and the hops without their fields.
 #[tactic(auto, unfolding(epic_layout::specs::Spelling::path_bytes, epic_layout::specs::Contents::shape))]
 fn path_bytes(alloc: Global, packet: &PacketRef<'_>) -> Result<Vec<u8>, AllocError>
@@ -100,7 +86,7 @@ fn hop_heads(alloc: Global, packet: &PacketRef<'_>) -> Result<Vec<u8>, AllocErro
 }
 
 /// The updates that stand in the packet: each hop's field at level 3, and none at other levels.
-#[tactic(auto, unfolding(crate::specs::Made::own_updates, epic_layout::specs::Spelling::update_count, epic_num::specs::Levels::level_number, epic_layout::specs::Contents::shape))]
+#[tactic(auto, unfolding(epic_layout::specs::Updates::own_updates, epic_layout::specs::Spelling::update_count, epic_num::specs::Levels::level_number, epic_layout::specs::Contents::shape))]
 fn own_updates(alloc: Global, packet: &PacketRef<'_>) -> Result<Vec<u8>, AllocError>
     ensures { IfOk result (λ v. v.items ≡ concat (own_updates packet.now)) }
 {

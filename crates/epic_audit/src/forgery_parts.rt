@@ -6,15 +6,13 @@ ghost use Rattle.epic_num.specs.Levels.{is_tagged};
 ghost use Rattle.epic_layout.specs.Contents.{hop_count};
 ghost use Rattle.epic_topo.specs.Network.{has};
 ghost use Rattle.epic_keys.specs.Keys as keys;
-ghost use Rattle.epic_keys.specs.Tags as tags;
 ghost use Rattle.epic_fields.specs.PacketTags as packet_tags;
 ghost use Rattle.epic_audit.specs.ForgedText as spec;
-ghost use Rattle.epic_audit.specs.Made as made;
 
 use crate::dest_message::append_field;
-use epic_fields::authenticator;
-use epic_keys::{derive, owner};
-use epic_num::{AsId, Forgery, KeyName, authenticator_message, field23_message};
+use epic_fields::hop_message;
+use epic_keys::owner;
+use epic_num::{Forgery, HopName, KeyName, authenticator_message};
 use epic_topo::Topology;
 use epic_view::PacketRef;
 use std::alloc::{AllocError, Global};
@@ -28,18 +26,6 @@ pub fn key_text(alloc: Global, key: &KeyName) -> Result<String, AllocError>
         KeyName::Fwd { a, g } => format!(in alloc; "fwd,{a},{g}"),
         KeyName::Field { a, src, epoch } => format!(in alloc; "field,{a},{src},{epoch}"),
         KeyName::Dest { dst, src, epoch } => format!(in alloc; "dest,{dst},{src},{epoch}"),
-    }
-}
-
-/// The name of the key that an AS shares with the packet's source.
-#[tactic(auto, unfolding(epic_fields::specs::PacketTags::field_name))]
-pub fn field_name(topo: &Topology, asn: AsId, packet: &PacketRef<'_>) -> KeyName
-    ensures { result ≡ packet_tags.field_name topo.now asn packet.now }
-{
-    KeyName::Field {
-        a: asn,
-        src: packet.src(),
-        epoch: topo.profile().epoch_of(packet.ts()),
     }
 }
 
@@ -67,34 +53,18 @@ pub fn field_text(alloc: Global, packet: &PacketRef<'_>, hop: u8) -> Result<Stri
     hex::encode(alloc, field.as_slice())
 }
 
-/// The authenticator of the forgery's hop, under the forwarding key of the owner of the forgery's key.
-#[tactic(auto, unfolding(crate::specs::ForgedText::forged_hop, epic_keys::specs::Tags::sigma, epic_keys::specs::Tags::hop_key, epic_keys::specs::Keys::owner, epic_fields::specs::Formulas::authenticator, epic_fields::specs::HopChecks::hop_name))]
-fn sigma(topo: &Topology, packet: &PacketRef<'_>, forgery: &Forgery) -> [u8; 16]
-    requires hop { forgery.now.hop < hop_count packet.now }
-    requires owner { IsTrue (has topo.now (keys.owner forgery.now.key)) }
-    ensures { result ≡ tags.sigma topo.now (spec.forged_hop packet.now forgery.now) }
-{
-    let key = KeyName::Fwd {
-        a: owner(&forgery.key),
-        g: forgery.generation,
-    };
-    authenticator(&derive(topo, &key), &packet.body(forgery.hop))
-}
-
 /// What the field of the forgery's hop, and its update, are made over at levels 2 and 3.
-#[tactic(auto, unfolding(crate::specs::Made::hop_message))]
-pub fn hop_message(topo: &Topology, packet: &PacketRef<'_>, forgery: &Forgery) -> [u8; 38]
+#[tactic(auto, unfolding(crate::specs::ForgedText::forged_hop, epic_fields::specs::HopChecks::hop_name))]
+pub fn forged_message(topo: &Topology, packet: &PacketRef<'_>, forgery: &Forgery) -> [u8; 38]
     requires hop { forgery.now.hop < hop_count packet.now }
     requires owner { IsTrue (has topo.now (keys.owner forgery.now.key)) }
     requires tagged { IsTrue (is_tagged packet.now.first) }
-    ensures { result ≡ made.hop_message topo.now (spec.forged_hop packet.now forgery.now) packet.now forgery.now.hop }
+    ensures { result ≡ packet_tags.hop_message topo.now (spec.forged_hop packet.now forgery.now) packet.now forgery.now.hop }
 {
-    let sigma = sigma(topo, packet, forgery);
-    field23_message(
-        packet.first_byte(),
-        packet.ts(),
-        packet.src(),
-        forgery.hop,
-        &sigma,
-    )
+    let name = HopName {
+        asn: owner(&forgery.key),
+        generation: forgery.generation,
+        body: packet.body(forgery.hop),
+    };
+    hop_message(topo, &name, packet, forgery.hop)
 }

@@ -1,3 +1,5 @@
+//! Words of forgeries, in tables.
+
 ghost use Rattle.std.specs.Prelude.{◌≡◌};
 ghost use Rattle.epic_audit.specs.ForgedText.{fits_level, has_form};
 

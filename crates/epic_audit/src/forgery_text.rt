@@ -11,7 +11,8 @@ ghost use Rattle.epic_audit.specs.ForgedText as spec;
 ghost use Rattle.epic_audit.specs.ForgedText.{fits_level, has_form, words_text};
 
 use crate::dest_message::dest_message;
-use crate::forgery_parts::{authenticator_text, field_name, field_text, hop_message, key_text};
+use crate::forgery_parts::{authenticator_text, field_text, forged_message, key_text};
+use epic_fields::field_name;
 use epic_keys::owner;
 use epic_num::{ForgedKind, Forgery, Level, OutOfMemory, field1_message, is_tagged, level_of};
 use epic_topo::Topology;
@@ -93,7 +94,7 @@ fn issue_words(
 {
     if is_tagged(packet.first_byte()) {
         let key = key_text(alloc, &field_name(topo, owner(&forgery.key), packet))?;
-        let message = hop_message(topo, packet, forgery);
+        let message = forged_message(topo, packet, forgery);
         return over_words(alloc, packet, forgery, &key, &message);
     }
     static_words(alloc, packet, forgery)
@@ -169,7 +170,7 @@ fn field_words(
         words_text (spec.field_words topo.now packet.now forgery.now)) }
 {
     let key = key_text(alloc, &forgery.key)?;
-    let message = hex::encode(alloc, hop_message(topo, packet, forgery).as_slice())?;
+    let message = hex::encode(alloc, forged_message(topo, packet, forgery).as_slice())?;
     let tag = field_text(alloc, packet, forgery.hop)?;
     format!(in alloc; "field {key} {message} {tag}")
 }
@@ -189,7 +190,7 @@ fn update_words(
 {
     let hop = forgery.hop;
     let key = key_text(alloc, &forgery.key)?;
-    let message = hex::encode(alloc, hop_message(topo, packet, forgery).as_slice())?;
+    let message = hex::encode(alloc, forged_message(topo, packet, forgery).as_slice())?;
     let tag = field_text(alloc, packet, hop)?;
     format!(in alloc; "update {hop} {key} {message} {tag}")
 }

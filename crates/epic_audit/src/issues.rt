@@ -6,7 +6,8 @@ ghost use Rattle.epic_topo.specs.Network.{has};
 ghost use Rattle.epic_ledger.specs.Facts.{facts_of};
 ghost use Rattle.epic_audit.specs.Verdicts as verdicts;
 
-use crate::twins::{is_twin, sigma};
+use crate::twins::is_twin;
+use epic_fields::sigma;
 use epic_ledger::Ledger;
 use epic_num::{HopName, same_name};
 use epic_topo::Topology;

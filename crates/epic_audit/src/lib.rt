@@ -12,7 +12,6 @@ mod forgery_tests;
 mod forgery_text;
 mod issues;
 mod laws;
-mod levels;
 mod linking;
 mod naming;
 mod reveals;

@@ -2,7 +2,7 @@
 ghost use Rattle.std.specs.Prelude.{◌≡◌, IsTrue};
 ghost use Rattle.epic_num.specs.Chains.{name_of};
 ghost use Rattle.epic_topo.specs.Network.{has};
-ghost use Rattle.epic_keys.specs.Tags as tags;
+ghost use Rattle.epic_fields.specs.Tags as tags;
 ghost use Rattle.epic_ledger.specs.Facts.{facts_of};
 ghost use Rattle.epic_ledger.specs.Lawful.{IsLawful};
 ghost use Rattle.epic_audit.specs.Searches as searches;

@@ -1,26 +1,12 @@
 //! Hops of one AS with one authenticator.
 ghost use Rattle.std.specs.Prelude.{◌≡◌, IsTrue};
 ghost use Rattle.epic_topo.specs.Network.{has};
-ghost use Rattle.epic_keys.specs.Tags as tags;
+ghost use Rattle.epic_fields.specs.Tags as tags;
 ghost use Rattle.epic_audit.specs.Verdicts as verdicts;
 
-use epic_fields::authenticator;
-use epic_keys::derive;
-use epic_num::{HopName, KeyName, same_as};
+use epic_fields::sigma;
+use epic_num::{HopName, same_as};
 use epic_topo::Topology;
-
-/// The authenticator of a hop of an AS of the topology.
-#[tactic(auto, unfolding(epic_keys::specs::Tags::sigma, epic_keys::specs::Tags::hop_key, epic_keys::specs::Keys::owner, epic_fields::specs::Formulas::authenticator))]
-pub fn sigma(topo: &Topology, x: &HopName) -> [u8; 16]
-    requires { IsTrue (has topo.now x.now.asn) }
-    ensures { result ≡ tags.sigma topo.now x.now }
-{
-    let key = KeyName::Fwd {
-        a: x.asn,
-        g: x.generation,
-    };
-    authenticator(&derive(topo, &key), &x.body)
-}
 
 /// Whether the hop `y` is of the AS of `x` and has its authenticator.
 #[tactic(auto, unfolding(crate::specs::Verdicts::is_twin, epic_num::specs::Same::same_as))]

@@ -4,11 +4,10 @@ ghost use Rattle.std.specs.List.{range_with_len};
 ghost use Rattle.epic_ledger.specs.Facts.{facts_of};
 ghost use Rattle.epic_audit.specs.Searches as searches;
 
-use crate::levels::is_updated;
 use crate::reveals::is_revealed;
 use crate::sources::name_sent;
 use epic_ledger::Ledger;
-use epic_num::{Holder, HopName};
+use epic_num::{Holder, HopName, is_updated};
 use epic_view::PacketRef;
 
 /// A hop that the source sent the packet over: its AS wasn't revealed, and didn't accept the hop.

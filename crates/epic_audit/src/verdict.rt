@@ -17,15 +17,15 @@ ghost use Rattle.epic_audit.specs.Verdicts as verdicts;
 ghost use Rattle.epic_audit.specs.Verdicts.{IsProved};
 
 use crate::issues::first_twin;
-use crate::levels::is_static;
 use crate::linking::broken_chain;
-use crate::naming::{field_name, opened_at};
+use crate::naming::opened_at;
 use crate::reveals::reveal_step;
 use crate::sources::{source_of, twin_sent};
-use crate::twins::sigma;
+use epic_fields::{field_name, sigma};
 use epic_ledger::Ledger;
 use epic_num::{
     AsId, Collision, ForgedKind, Forgery, Holder, HopName, KeyName, Part, Verdict, is_tagged,
+    is_timed,
 };
 use epic_topo::Topology;
 use epic_view::PacketRef;
@@ -41,7 +41,7 @@ fn twin_issue(
     requires { IsTrue (has topo.now x.now.asn) }
     ensures { result ≡ verdicts.twin_issue topo.now (facts_of ledger.now.history) x.now packet.now }
 {
-    if is_static(packet.first_byte()) {
+    if !is_timed(packet.first_byte()) {
         return None;
     }
     first_twin(ledger, topo, x)

@@ -9,9 +9,12 @@ use Rattle.std.proofs.Math.Dec.{eqb-suc-zero}
 use Rattle.arrayvec.specs.ArrayVec.{ArrayVec}
 use Rattle.epic_num.specs.declared.name.AsId.{AsId}
 use Rattle.epic_num.specs.Chains.{Issue}
-use Rattle.epic_layout.specs.Contents.{Contents, hop_count}
-use Rattle.epic_layout.specs.Layout.{parse}
+use Rattle.epic_num.specs.Levels.{is_first_byte}
+use Rattle.epic_layout.specs.Contents.{Contents, IsBytes, hop_count}
+use Rattle.epic_layout.specs.Layout.{fault, parse}
 use Rattle.epic_layout.specs.Route.{no_segment}
+use Rattle.epic_layout.proofs.Limits.{IsPacket-parse}
+use Rattle.epic_layout.proofs.Soundness.{sound}
 use Rattle.epic_ledger.specs.History.{Emission, emission_at, step_of}
 use Rattle.epic_ledger.specs.Facts.{issues_in, packet_at}
 use Rattle.epic_ledger.specs.Lawful.{IsEmission, FitsPass, Fits, IsLast, IsLawful}
@@ -100,6 +103,10 @@ lawful_push events es e h fits last = record {
             (subst (λ (y : Event). IsLast events (step_of y)) p.1 last)
       ];
 }
+
+-- bytes without a fault spell a packet
+pub spelled_in : (x : Emission) → IsBytes x.bytes → fault is_first_byte x.bytes ≡ None → IsEmission x
+spelled_in x bytes faultless = record { packet = IsPacket-parse x.bytes bytes (sound x.bytes faultless); faultless = faultless }
 
 pub lawful_emit : (events : List Event) (es : List Emission) (x : Emission) → IsLawful (record { events = events; emissions = es })
     → IsEmission x

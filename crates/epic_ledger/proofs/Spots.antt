@@ -9,7 +9,8 @@ use Rattle.epic_layout.specs.Layout.{fault, parse, route_in, segments_in}
 use Rattle.epic_layout.specs.Laws.{IsPlaceOf}
 use Rattle.epic_layout.specs.Route.{place, position, no_segment}
 use Rattle.epic_layout.specs.declared.head.HopPlace.{HopPlace}
-use Rattle.epic_ledger.specs.Facts.{Sent, ancestor, sent_issue}
+use Rattle.epic_ledger.specs.Facts.{Sent, sent_issue}
+use Rattle.epic_num.specs.Chains.{ancestor}
 use Rattle.epic_ledger.specs.Walks.{spot, issue_of_hop}
 use Rattle.epic_ledger.specs.declared.spot.Spot.{Spot}
 use Rattle.epic_layout.proofs.HopPlaces.{places_are_one}

@@ -1,8 +1,8 @@
 -- What the events of a ledger say: the hops that were issued, the packets that were sent, the hops that routers accepted, and
 -- the holders that were revealed, each in order. Packets stand here as what their bytes say.
-use Rattle.std.specs.Prelude.{ℕ, zero, suc, ◌-◌, nat_lt, if◌then◌else◌, List, [], filter_map, slice_index_or, Option, Some, None}
+use Rattle.std.specs.Prelude.{ℕ, ◌-◌, nat_lt, if◌then◌else◌, List, [], filter_map, slice_index_or, Option, Some, None}
 use Rattle.std.specs.Option.{option_map_or}
-use Rattle.epic_num.specs.Chains.{Issue, issue_at, name_of}
+use Rattle.epic_num.specs.Chains.{Issue, name_of, ancestor}
 use Rattle.epic_num.specs.declared.hop.HopName.{HopName}
 use Rattle.epic_num.specs.declared.key_name.Holder.{Holder}
 use Rattle.epic_num.specs.declared.name.AsId.{AsId}
@@ -84,11 +84,6 @@ facts_of h = record {
 -- the name of the hop that was accepted
 unfoldable pub pass_name : Pass → HopName
 pass_name w = record { asn = w.asn; generation = w.generation; body = body w.packet.route w.hop }
-
--- the number of the issue that an issue goes on from, so many issues before it
-unfoldable pub ancestor : List Issue → ℕ → ℕ → ℕ
-ancestor issues number zero = number
-ancestor issues number (suc n) = ancestor issues (option_map_or (λ i. i.parent) (issue_at issues number) 0) n
 
 -- The number of the issue that a sent packet has at hop j: on the chain of the hop's segment, the one of the hop's
 -- position.

@@ -3,17 +3,17 @@ use Rattle.std.specs.Prelude.{◌≡◌, ℕ, ◌+◌, ◌<◌, ◌≤◌, List,
 use Rattle.std.specs.List.{All}
 use Rattle.epic_num.specs.Chains.{Issue, issue_at, chain}
 use Rattle.epic_num.specs.Levels.{is_first_byte}
-use Rattle.epic_layout.specs.Contents.{IsBytes, hop_count}
-use Rattle.epic_layout.specs.Layout.{fault}
+use Rattle.epic_layout.specs.Contents.{IsPacket, hop_count}
+use Rattle.epic_layout.specs.Layout.{fault, parse}
 use Rattle.epic_layout.specs.Route.{no_segment}
 use Rattle.epic_ledger.specs.History.{History, Emission, emission_at, step_of}
 use Rattle.epic_ledger.specs.Facts.{issues_in, packet_at}
 use Rattle.epic_ledger.specs.declared.event.Event.{Event}
 use Rattle.epic_ledger.specs.declared.event.Event.TheVariants as event
 
--- an emission's bytes spell a packet
+-- an emission's bytes spell a packet within the layout's limits
 pub record IsEmission (e : Emission) : Type 0 where
-  pub bytes : IsBytes e.bytes
+  pub packet : IsPacket (parse e.bytes)
   pub faultless : fault is_first_byte e.bytes ≡ None
 
 -- an issue has the next number, and goes on from none or from one that is there

@@ -1,8 +1,12 @@
 pub mod Facts
 pub mod History
+pub mod Indexes
+pub mod Kinds
 pub mod Lawful
+pub mod OneMore
 pub mod Parts
 pub mod Queries
+pub mod Ranks
 pub mod Recorded
 pub mod Rows
 pub mod Walks

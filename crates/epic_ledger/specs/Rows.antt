@@ -6,6 +6,9 @@ use Rattle.epic_num.specs.Levels.{is_first_byte}
 use Rattle.epic_layout.specs.Layout.{fault}
 use Rattle.epic_ledger.specs.History.{Emission}
 use Rattle.epic_ledger.specs.Facts.{issues_in}
+use Rattle.epic_tree.specs.Index.{IsTagged}
+use Rattle.epic_tree.specs.Sides.{Ordered}
+use Rattle.epic_ledger.specs.Ranks.{name_cmp, name_tag, names_of, no_name}
 use Rattle.epic_ledger.specs.declared.event.Event.{Event}
 use Rattle.epic_ledger.specs.declared.emissions.Span.{Span}
 use Rattle.epic_ledger.specs.declared.log.Issued.{Issued}
@@ -34,8 +37,9 @@ pub record IsRow (row : List ℕ) (spans : List Span) : Type 0 where
 unfoldable pub issue_in : Issued → Issue
 issue_in i = record { name = i.name; parent = i.parent }
 
--- the issues are those of the events
-pub record IsLog (events : List Event) (issues : List Issued) : Type 0 where
+-- the issues are those of the events, and their names stand in a tree
+pub record IsLog (events : List Event) (issues : List Issued) (names : Ordered) : Type 0 where
   pub issued : map issue_in issues ≡ issues_in events
   pub few : length events ≤ MAX_EVENTS
   pub few_issues : length issues ≤ length events
+  pub named : IsTagged name_cmp name_tag no_name (names_of issues) names

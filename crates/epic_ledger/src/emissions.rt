@@ -1,3 +1,4 @@
+//! The packets under way, in one row of bytes.
 ghost use Rattle.std.specs.Prelude.{◌≡◌, ◌+◌, ◌^◌, ◌<◌, ◌≤◌, [], ◌∷◌, ◌++◌, None, length, take, drop, slice_get, option_map, IsSome, IfSome, IsOk, OnOk};
 ghost use Rattle.std.specs.Option.{option_map_or};
 ghost use Rattle.epic_num.specs.Levels.{is_first_byte};

@@ -1,3 +1,4 @@
+//! What happens.
 use arrayvec::ArrayVec;
 use epic_num::{AsId, Holder, HopName, HostId};
 

@@ -1,3 +1,4 @@
+//! The ledger: its events, its emissions and what finds the first of a kind.
 ghost use Rattle.std.specs.Prelude.{◌≡◌, ◌+◌, ◌^◌, ◌<◌, ◌≤◌, [], ◌∷◌, ◌++◌, length, option_map, slice_get, None, IsOk, OnOk};
 ghost use Rattle.std.specs.Option.{option_copied};
 ghost use Rattle.epic_num.specs.Chains.{issue_at};
@@ -11,7 +12,9 @@ ghost use Rattle.epic_ledger.specs.Lawful.{Fits, IsLast, IsLawful};
 use crate::Event;
 use crate::emissions::Emissions;
 use crate::log::Log;
+use crate::pass_index::{Passes, add_pass};
 use epic_num::{HopName, OutOfMemory, Place};
+use epic_tree::Tree;
 use epic_view::PacketRef;
 use std::alloc::Global;
 use std::marker::Model;
@@ -21,6 +24,7 @@ use std::marker::Model;
 pub struct Ledger {
     pub(crate) log: Log,
     pub(crate) emissions: Emissions,
+    pub(crate) passes: Passes,
 }
 
 impl Model for Ledger {
@@ -28,12 +32,19 @@ impl Model for Ledger {
 
     ghost Value = { Recorded };
 
-    ghost use Rattle.epic_ledger.specs.Queries as queries;
-    ghost use Rattle.epic_ledger.specs.Lawful.{IsLawful};
+    ghost use Rattle.std.specs.Prelude.{◌-◌, length, min, vec_capacity};
+    ghost use Rattle.epic_ledger.specs.Indexes.{IsRecorded};
 
-    ghost view = { λ l. record { history = record { events = l.log.events; emissions = l.emissions.emissions }; spare = record { events = l.log.spare; emissions = l.emissions.spare; bytes = l.emissions.byte_spare } } };
+    ghost view = { λ l. record {
+      history = record { events = l.log.events; emissions = l.emissions.emissions };
+      spare = record {
+        events = min l.log.spare (min (vec_capacity l.passes.at - length l.passes.at.items) l.passes.names.spare);
+        emissions = l.emissions.spare;
+        bytes = l.emissions.byte_spare;
+      };
+    } };
 
-    ghost invariant = { λ l. IsLawful (record { events = l.log.events; emissions = l.emissions.emissions }) };
+    ghost invariant = { λ l. IsRecorded l.log.events l.emissions.emissions l.passes.at.items l.passes.names };
 }
 
 impl Ledger {
@@ -45,6 +56,10 @@ impl Ledger {
         Ledger {
             log: Log::new(alloc),
             emissions: Emissions::new(alloc),
+            passes: Passes {
+                at: Vec::new(alloc),
+                names: Tree::new(alloc),
+            },
         }
     }
 
@@ -74,6 +89,9 @@ impl Ledger {
         if self.emissions.reserve(emissions, bytes).is_err() {
             return Err(OutOfMemory);
         }
+        if self.passes.reserve(events).is_err() {
+            return Err(OutOfMemory);
+        }
         Ok(())
     }
 
@@ -83,7 +101,7 @@ impl Ledger {
         ensures lawful { IsLawful self.now.history }
     {
         (
-            self.log.spare(),
+            self.log.spare().min(self.passes.spare()),
             self.emissions.spare(),
             self.emissions.byte_spare(),
         )
@@ -101,6 +119,7 @@ impl Ledger {
         ensures emissions_spare { self.new.spare.emissions ≡ self.old.spare.emissions }
         ensures bytes_spare { self.new.spare.bytes ≡ self.old.spare.bytes }
     {
+        add_pass(&mut self.passes, self.log.events(), &self.emissions, &event);
         self.log.push(event);
     }
 

@@ -1,3 +1,4 @@
+//! How much a ledger holds.
 /// How many events a ledger holds at most.
 pub const MAX_EVENTS: usize = 0x7fff_ffff;
 

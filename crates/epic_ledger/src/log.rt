@@ -1,14 +1,20 @@
+//! The events in order, and the issues among them.
 ghost use Rattle.std.specs.Prelude.{◌≡◌, ◌+◌, ◌^◌, ◌<◌, ◌≤◌, [], ◌∷◌, ◌++◌, length, map, option_map, position, vec_len, vec_capacity, IfSome, IsOk, OnOk};
 ghost use Rattle.std.specs.Option.{option_map_or};
 ghost use Rattle.epic_num.specs.Chains as chains;
 ghost use Rattle.epic_num.specs.Same.{same_name};
-ghost use Rattle.epic_ledger.specs.Facts.{ancestor, as_issue, issues_in};
+ghost use Rattle.epic_num.specs.Chains.{ancestor};
+ghost use Rattle.epic_tree.specs.Index.{IsTagged};
+ghost use Rattle.epic_ledger.specs.Ranks.{name_cmp, name_tag, names_of, no_name};
+ghost use Rattle.epic_ledger.specs.Facts.{as_issue, issues_in};
 ghost use Rattle.epic_ledger.specs.Queries as queries;
 ghost use Rattle.epic_ledger.specs.Rows.{issue_in};
 
 use crate::Event;
 use crate::limits::MAX_EVENTS;
-use epic_num::{HopName, same_name};
+use crate::names::{Named, place_of};
+use epic_num::HopName;
+use epic_tree::Tree;
 use std::alloc::{AllocError, Global};
 use std::marker::Model;
 
@@ -24,6 +30,7 @@ pub struct Issued {
 pub struct Log {
     events: Vec<Event>,
     issues: Vec<Issued>,
+    names: Tree,
 }
 
 impl Model for Log {
@@ -35,9 +42,13 @@ impl Model for Log {
     ghost use Rattle.epic_ledger.specs.Rows.{room, IsLog};
     ghost use Rattle.epic_ledger.specs.declared.limits.TheConstants.{MAX_EVENTS};
 
-    ghost view = { λ l. record { events = l.events.items; spare = min (room (vec_capacity l.events) MAX_EVENTS (length l.events.items)) (vec_capacity l.issues - length l.issues.items) } };
+    ghost view = { λ l. record {
+      events = l.events.items;
+      spare = min (room (vec_capacity l.events) MAX_EVENTS (length l.events.items))
+          (min (vec_capacity l.issues - length l.issues.items) l.names.spare);
+    } };
 
-    ghost invariant = { λ l. IsLog l.events.items l.issues.items };
+    ghost invariant = { λ l. IsLog l.events.items l.issues.items l.names };
 }
 
 /// The issue of a number, which counts from 1.
@@ -73,14 +84,6 @@ fn ancestor_of(issues: &[Issued], number: u32, back: u8) -> u32
     at
 }
 
-/// The place of the first issue of a name, from 0.
-fn place_of(issues: &[Issued], name: &HopName) -> Option<usize>
-    ensures value { result ≡ position (λ i. same_name i.name name.now) issues.now }
-    ensures within { IfSome result (λ i. i < length issues.now) }
-{
-    issues.iter().position(|i| same_name(&i.name, name))
-}
-
 /// The issue's name and parent, where the event is an issue.
 #[tactic(auto, unfolding(crate::specs::Facts::as_issue, crate::specs::Rows::issue_in))]
 fn as_issue(event: &Event) -> Option<Issued>
@@ -96,13 +99,22 @@ fn as_issue(event: &Event) -> Option<Issued>
 }
 
 /// Adds the issue that the event is, if it is one.
-fn add_issue(issues: &mut Vec<Issued>, event: &Event)
-    requires { vec_len issues.old < vec_capacity issues.old }
+fn add_issue(issues: &mut Vec<Issued>, names: &mut Tree, event: &Event)
+    requires room { vec_len issues.old < vec_capacity issues.old }
+    requires names_room { 1 ≤ names.old.spare }
+    requires named { IsTagged name_cmp name_tag no_name (names_of issues.old.items) names.old }
+    ensures named { IsTagged name_cmp name_tag no_name (names_of issues.new.items) names.new }
+    ensures names_spare { names.old.spare ≤ names.new.spare + 1 }
     ensures issues { map issue_in issues.new.items ≡ map issue_in issues.old.items ++ issues_in (event.now ∷ []) }
     ensures len { vec_len issues.new ≤ vec_len issues.old + 1 }
     ensures capacity { vec_capacity issues.new ≡ vec_capacity issues.old }
 {
     if let Some(issue) = as_issue(event) {
+        let named = Named {
+            issues: issues.as_slice(),
+            name: issue.name,
+        };
+        names.add(&named);
         issues.push_reserved(issue);
     }
 }
@@ -114,11 +126,13 @@ impl Log {
         Log {
             events: Vec::new(alloc),
             issues: Vec::new(alloc),
+            names: Tree::new(alloc),
         }
     }
 
     pub fn events(&self) -> &[Event]
-        ensures { result.now ≡ self.now.events }
+        ensures value { result.now ≡ self.now.events }
+        ensures few { length result.now < 2 ^ 31 }
     {
         self.events.as_slice()
     }
@@ -134,7 +148,7 @@ impl Log {
     {
         let events = self.events.capacity().min(MAX_EVENTS) - self.events.len();
         let issues = self.issues.capacity() - self.issues.len();
-        events.min(issues) as u32
+        events.min(issues.min(self.names.spare() as usize)) as u32
     }
 
     /// Makes room for so many more events.
@@ -147,6 +161,7 @@ impl Log {
     {
         self.events.reserve(events as usize)?;
         self.issues.reserve(events as usize)?;
+        self.names.reserve(events)?;
         Ok(())
     }
 
@@ -156,7 +171,7 @@ impl Log {
         ensures events { self.new.events ≡ self.old.events ++ event ∷ [] }
         ensures spare { self.old.spare ≤ self.new.spare + 1 }
     {
-        add_issue(&mut self.issues, &event);
+        add_issue(&mut self.issues, &mut self.names, &event);
         self.events.push_reserved(event);
     }
 
@@ -182,8 +197,8 @@ impl Log {
     pub fn issue_of(&self, name: &HopName) -> Option<u32>
         ensures { result ≡ queries.issue_of (issues_in self.now.events) name.now }
     {
-        match place_of(self.issues.as_slice(), name) {
-            Some(place) => Some(place as u32 + 1),
+        match place_of(self.issues.as_slice(), &self.names, name) {
+            Some(place) => Some(place + 1),
             None => None,
         }
     }

@@ -3,19 +3,17 @@ ghost use Rattle.std.specs.Prelude.{◌≡◌, ◌==◌, None};
 ghost use Rattle.epic_num.specs.Levels.{is_first_byte};
 ghost use Rattle.epic_layout.specs.Layout.{fault, parse};
 
-use epic_layout::u64_at;
+use epic_layout::wire::TS_AT;
+use epic_layout::{shape_of, u64_at};
 use epic_view::PacketRef;
 
-/// The packet of bytes without a fault.
+/// The packet of bytes without a fault, which are not checked again.
 #[tactic(auto, unfolding(epic_layout::specs::Layout::parse))]
 pub fn packet_in(bytes: &[u8]) -> PacketRef<'_>
     requires { fault is_first_byte bytes.now ≡ None }
     ensures { result ≡ parse bytes.now }
 {
-    match PacketRef::look(bytes) {
-        Ok(packet) => packet,
-        Err(_) => unreachable!(),
-    }
+    PacketRef::of(bytes, shape_of(bytes))
 }
 
 /// Whether the packet has this timestamp, which is read before anything else.
@@ -24,5 +22,5 @@ pub fn has_ts(bytes: &[u8], ts: u64) -> bool
     requires { fault is_first_byte bytes.now ≡ None }
     ensures { result ≡ ((parse bytes.now).ts == ts) }
 {
-    u64_at(bytes, 32) == ts
+    u64_at(bytes, TS_AT) == ts
 }

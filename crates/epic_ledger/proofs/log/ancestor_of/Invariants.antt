@@ -1,5 +1,5 @@
 use Rattle.std.proofs.Common.{◌≡◌, ◌-◌, map}
-use Rattle.epic_ledger.specs.Facts.{ancestor}
+use Rattle.epic_num.specs.Chains.{ancestor}
 use Rattle.epic_ledger.specs.Rows.{issue_in}
 use Rattle.epic_ledger.proofs.log.ancestor_of.Given as goal
 

@@ -9,6 +9,10 @@ use Rattle.epic_ledger.proofs.ledger.Ledger.push.Goals as goal
 pub invariant_of-self : goal.invariant_of-self
 invariant_of-self c =
     rw c.push.ensures.events
-    (lawful_push c.self.inside.log.events c.self.inside.emissions.emissions c.args.event c.self.invariant
-    (subst (λ (r : Recorded). Fits r.history.emissions (issues_in r.history.events) c.args.event) (sym c.self.view_is) c.requires.fits)
-    (subst (λ (r : Recorded). IsLast r.history.events (step_of c.args.event)) (sym c.self.view_is) c.requires.last))
+    (record {
+      lawful =
+          lawful_push c.self.inside.log.events c.self.inside.emissions.emissions c.args.event c.self.invariant.lawful
+          (subst (λ (r : Recorded). Fits r.history.emissions (issues_in r.history.events) c.args.event) (sym c.self.view_is) c.requires.fits)
+          (subst (λ (r : Recorded). IsLast r.history.events (step_of c.args.event)) (sym c.self.view_is) c.requires.last);
+      passes = rw c.events.ensures.value at c.add_pass.ensures.index;
+    })

@@ -12,11 +12,11 @@ returns-in-Some c =
     subst (λ (r : Logged). Some (c.in-Some.place + 1) ≡ issue_of (issues_in r.events) c.args.name.now) c.self.view_is
     (rw add-one
     (ap (option_map suc) found
-    ∙ sym (issue_of-log c.self.inside.events.items c.self.inside.issues.items c.args.name.now c.self.invariant)))
+    ∙ sym (issue_of-log c.self.inside.events.items c.self.inside.issues.items c.self.inside.names c.args.name.now c.self.invariant)))
 
 pub returns-in-None : goal.returns-in-None
 returns-in-None c =
     let missed = rw c.as_slice.ensures.value at c.in-None.ensures.value in
     subst (λ (r : Logged). None ≡ issue_of (issues_in r.events) c.args.name.now) c.self.view_is
     (ap (option_map suc) missed
-    ∙ sym (issue_of-log c.self.inside.events.items c.self.inside.issues.items c.args.name.now c.self.invariant))
+    ∙ sym (issue_of-log c.self.inside.events.items c.self.inside.issues.items c.self.inside.names c.args.name.now c.self.invariant))

@@ -13,4 +13,5 @@ invariant_of-self c =
     let few_more : length c.add_issue.new.issues.items ≤ length issues.items + 1 =
     omega (arith, c.add_issue.ensures.len, issues.ok.0, c.add_issue.new.issues.ok.0)
     in rw c.push_reserved.ensures.items
-    (log_push events.items c.args.event issues.items c.add_issue.new.issues.items c.self.invariant c.add_issue.ensures.issues few_more few)
+    (log_push events.items c.args.event issues.items c.add_issue.new.issues.items c.self.inside.names c.add_issue.new.names
+    c.self.invariant c.add_issue.ensures.named c.add_issue.ensures.issues few_more few)

@@ -1,0 +1,44 @@
+-- Private: serves proofs of this crate alone; no public contract cites it.
+-- Orders of what is sought in a ledger. They tell apart exactly what the tests of equality tell apart.
+use Rattle.std.specs.Prelude.{ℕ, List, [], map}
+use Rattle.std.specs.Cmp.Lexicographic.{slice_cmp}
+use Rattle.std.specs.Int.{w32}
+use Rattle.std.specs.Ordering.{nat_cmp, then_cmp, on}
+use Rattle.std.specs.declared.cmp.Ordering.{Ordering}
+use Rattle.epic_layout.specs.Pieces.{number}
+use Rattle.epic_num.specs.declared.hop.Body.{Body}
+use Rattle.epic_num.specs.declared.hop.HopName.{HopName}
+use Rattle.epic_num.specs.declared.name.AsId.{AsId}
+use Rattle.epic_num.specs.declared.name.HostId.{HostId}
+use Rattle.epic_ledger.specs.declared.log.Issued.{Issued}
+
+unfoldable pub as_cmp : AsId → AsId → Ordering
+as_cmp = on (λ (a : AsId). a.0) nat_cmp
+
+unfoldable pub host_cmp : HostId → HostId → Ordering
+host_cmp = then_cmp (on (λ (h : HostId). h.asn) as_cmp) (on (λ (h : HostId). h.host) nat_cmp)
+
+unfoldable pub body_cmp : Body → Body → Ordering
+body_cmp =
+    then_cmp
+    (then_cmp
+    (then_cmp
+    (then_cmp (then_cmp (on (λ (b : Body). b.pos) nat_cmp) (on (λ (b : Body). b.exp) nat_cmp)) (on (λ (b : Body). b.ts_path) nat_cmp))
+    (on (λ (b : Body). b.inn) nat_cmp))
+    (on (λ (b : Body). b.out) nat_cmp))
+    (on (λ (b : Body). b.link) (slice_cmp nat_cmp))
+
+unfoldable pub name_cmp : HopName → HopName → Ordering
+name_cmp =
+    then_cmp (then_cmp (on (λ (x : HopName). x.asn) as_cmp) (on (λ (x : HopName). x.generation) nat_cmp)) (on (λ (x : HopName). x.body) body_cmp)
+
+-- the first half of its link tag
+unfoldable pub name_tag : HopName → ℕ
+name_tag x = number w32 x.body.link 0
+
+-- no hop's name
+unfoldable pub no_name : HopName
+no_name = record { asn = record { 0 = 0 }; generation = 0; body = record { pos = 0; exp = 0; ts_path = 0; inn = 0; out = 0; link = [] } }
+
+abbrev pub names_of : List Issued → List HopName
+names_of issues = map (λ (i : Issued). i.name) issues
