@@ -1,0 +1,5 @@
+pub mod Arrivals
+pub mod Legs
+pub mod Made
+pub mod RightTags
+pub mod Ways

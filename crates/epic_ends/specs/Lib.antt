@@ -1,0 +1,6 @@
+pub mod Admitting
+pub mod Arriving
+pub mod RightArrivals
+pub mod Sending
+pub mod SentPackets
+pub mod Ways

@@ -1,0 +1,17 @@
+pub mod Carrying
+pub mod Counting
+pub mod FromInv
+pub mod Grown
+pub mod InvIssued
+pub mod InvKept
+pub mod Longer
+pub mod Once
+pub mod Passable
+pub mod Remembered
+pub mod Riding
+pub mod SoundPasses
+pub mod Travelled
+pub mod Welcome
+pub mod SentKept
+pub mod InvSent
+pub mod Example
