@@ -2,10 +2,13 @@
 use Rattle.std.proofs.Common.{Bool, cond, count_by, ◌≡◌, ℕ, suc, ◌+◌, ◌<◌, ◌≤◌, Option, List, [], ◌∷◌, ◌++◌, length, take, drop, get_or, refl, sym, ap, ◌∙◌, arith, append_assoc, append-nil}
 use Rattle.std.proofs.lemmas.List.Sums.{sum_by-cons}
 use Rattle.std.proofs.lemmas.List.{take_more, drop_more, drop_all}
-use Rattle.epic_ports.specs.Written.{Appends, AppendsFront}
-use Rattle.epic_ports.proofs.Appended.{Appends-trans, AppendsFront-after, AppendsFront-more}
+use Rattle.epic_ports.specs.Written.{Appends}
+use Rattle.epic_ports.specs.declared.error.PortError.{PortError}
+use Rattle.epic_ports.proofs.Appended.{Appends-trans}
 use Rattle.epic_app.specs.declared.hop_file.HopCommand.{HopCommand}
 use Rattle.epic_app.specs.declared.hop_answer.HopAnswer.{HopAnswer}
+use Rattle.epic_app.specs.Writing.{Stops}
+use Rattle.epic_app.proofs.WritingLaws.{stops_after, stops_in, stops_more}
 use Rattle.epic_app.specs.HopReport.{answer_of, answers_after, answers, is_accept, is_forged, end_text}
 
 -- the answers from the command at this place on
@@ -29,22 +32,16 @@ pub length-answers_after : (key : List ℕ) (earlier commands : List HopCommand)
 length-answers_after key earlier [] = refl
 length-answers_after key earlier (command ∷ more) = ap suc (length-answers_after key (earlier ++ command ∷ []) more)
 
--- a front of a line was written after the lines before it
-pub front_in_line : (u v w : Option (List ℕ)) (front line more end all : List ℕ) → Appends u v front →
-    AppendsFront v w line → all ≡ front ++ (line ++ more) → AppendsFront u w (all ++ end)
-front_in_line u v w front line more end all before in_line is =
-    rw is (AppendsFront-more u w (front ++ (line ++ more)) end (AppendsFront-after u v w front (line ++ more) before (AppendsFront-more v w line more in_line)))
-
--- a line was written after the lines before it
-pub line_after : (u v w : Option (List ℕ)) (front line more all : List ℕ) → Appends u v front →
-    Appends v w line → all ≡ front ++ (line ++ more) →
-    (front' : List ℕ) × Appends u w front' × (all ≡ front' ++ more)
-line_after u v w front line more all before now is = (front ++ line, Appends-trans u v w front line before now, is ∙ sym (append_assoc front line more))
+-- less of a line was written after the lines before it
+pub stops_in_line : (u v w : Option (List ℕ)) (front line more end all : List ℕ) (k m n : ℕ) (e : PortError) → Appends u v front → k ≤ m →
+    Stops line v w m n e → all ≡ front ++ (line ++ more) → Stops (all ++ end) u w k n e
+stops_in_line u v w front line more end all k m n e before low stops is =
+    stops_more u w all end k n e (stops_in u v w front line more all k m n e before low stops is)
 
 -- the last line after all others
-pub front_in_end : (u v w : Option (List ℕ)) (front end all : List ℕ) → Appends u v front →
-    AppendsFront v w end → all ≡ front ++ [] → AppendsFront u w (all ++ end)
-front_in_end u v w front end all before in_end is = rw (is ∙ append-nil front) (AppendsFront-after u v w front end before in_end)
+pub stops_in_end : (u v w : Option (List ℕ)) (front end all : List ℕ) (k m n : ℕ) (e : PortError) → Appends u v front → k ≤ m →
+    Stops end v w m n e → all ≡ front ++ [] → Stops (all ++ end) u w k n e
+stops_in_end u v w front end all k m n e before low stops is = rw (is ∙ append-nil front) (stops_after u v w front end k m n e before low stops)
 
 pub end_after : (u v w : Option (List ℕ)) (front end all : List ℕ) → Appends u v front → Appends v w end →
     all ≡ front ++ [] → Appends u w (all ++ end)

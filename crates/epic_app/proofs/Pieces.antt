@@ -1,8 +1,8 @@
 -- Pieces that are written one after the other.
 use Rattle.std.proofs.Common.{◌≡◌, ℕ, ◌+◌, ◌<◌, Option, Bor, List, ◌++◌, length, drop, get_or, flat_map, ap, ◌∙◌}
 use Rattle.std.proofs.lemmas.List.{drop_more}
-use Rattle.epic_ports.specs.Written.{Appends, AppendsFront}
-use Rattle.epic_ports.proofs.Appended.{AppendsFront-after, AppendsFront-more}
+use Rattle.epic_ports.specs.Written.{Appends, WritesBefore}
+use Rattle.epic_ports.proofs.Appended.{WritesBefore-after, WritesBefore-more}
 
 -- the piece at this place is the first of the pieces from there on
 pub pieces_step : (pieces : List (Bor (List ℕ))) (i : ℕ) (d : Bor (List ℕ)) (front all : List ℕ) →
@@ -12,8 +12,8 @@ pub pieces_step : (pieces : List (Bor (List ℕ))) (i : ℕ) (d : Bor (List ℕ)
 pieces_step pieces i d front all within is =
     is ∙ ap (λ (rest : List (Bor (List ℕ))). front ++ flat_map (λ piece. piece.now) rest) (drop_more pieces i d within)
 
--- a front of a piece was written after those before it
-pub front_in_piece : (u v w : Option (List ℕ)) (front piece more all : List ℕ) → Appends u v front →
-    AppendsFront v w piece → all ≡ front ++ (piece ++ more) → AppendsFront u w all
-front_in_piece u v w front piece more all before in_piece is =
-    rw is (AppendsFront-after u v w front (piece ++ more) before (AppendsFront-more v w piece more in_piece))
+-- less of a piece was written after those before it
+pub less_in_piece : (u v w : Option (List ℕ)) (front piece more all : List ℕ) → Appends u v front →
+    WritesBefore v w piece → all ≡ front ++ (piece ++ more) → WritesBefore u w all
+less_in_piece u v w front piece more all before less is =
+    rw is (WritesBefore-after u v w front (piece ++ more) before (WritesBefore-more v w piece more less))

@@ -1,61 +1,106 @@
 -- What a report claims, from the contract of the top call.
-use Rattle.std.proofs.Common.{get_or, ◌≡◌, ◌↔◌, ℕ, ◌+◌, ◌<◌, Bool, true, false, cond, ltb, ◌||◌, List, [], ◌∷◌, length, Option, Some, None, Result, Ok, Err, count_by, IsTrue, refl, sym, ap, ◌∙◌, arith}
-use Rattle.std.specs.List.{All, list_any}
-use Rattle.std.specs.Option.{option_map, option_and_then}
+use Rattle.std.proofs.Common.{◌≡◌, ◌↔◌, ℕ, ◌+◌, ◌<◌, Bool, true, false, cond, ltb, ◌||◌, List, [], ◌∷◌, length, Option, Some, None, Result, Ok, Err, count_by, IsTrue, refl, sym, ap, subst, ◌∙◌, inl, inr, arith}
+use Rattle.std.specs.List.{list_any}
 use Rattle.std.proofs.lemmas.Bool.Decides.{nat_tests}
 use Rattle.std.proofs.lemmas.List.Sums.{sum_by-cons}
 use Rattle.epic_num.specs.declared.command.Command.{Command}
+use Rattle.epic_ports.specs.Written.{Appends}
+use Rattle.epic_topo.specs.Lawful.{IsTopology}
 use Rattle.epic_topo.specs.Network.{Network}
 use Rattle.epic_topo.specs.Reading.{topology}
 use Rattle.epic_topo.specs.declared.fault.TopoError.{TopoError}
 use Rattle.epic_topo.specs.declared.fault.TopoError.TheVariants.{Bad, OutOfMemory}
-use Rattle.epic_text.specs.RunScript.{run_rule}
-use Rattle.epic_app.specs.declared.run_files.TheConstants.{TOPOLOGY_LIMIT, SCRIPT_LIMIT}
-use Rattle.epic_world.specs.Run.{run}
-use Rattle.epic_app.specs.RunReport.{has_alarm}
-use Rattle.epic_topo.specs.Lawful.{IsTopology}
 use Rattle.epic_topo.proofs.ReadLawful.{read_lawful}
 use Rattle.epic_topo.proofs.Steps.{at_ok}
-use Rattle.epic_world.specs.Run.{run_from}
-use Rattle.epic_world.specs.Sound.{CarriesBytes, IsSoundStep, RunsAreSound, StartIsSound, VerdictsHold}
-use Rattle.epic_world.specs.State.{start}
-use Rattle.epic_app.specs.RunFiles.{IsTakenUp}
-use Rattle.epic_app.proofs.ScriptCommands.{commands_taken}
-use Rattle.epic_app.specs.declared.hop_file.HopCommand.{HopCommand}
-use Rattle.epic_text.specs.Script.{Fault, commands_of}
+use Rattle.epic_text.specs.RunScript.{run_rule}
+use Rattle.epic_text.specs.Script.{Fault, Rule, commands_of}
+use Rattle.epic_world.specs.Run.{run}
+use Rattle.epic_world.specs.Sound.{CarriesBytes}
+use Rattle.epic_app.specs.Acts.{Act, World, Does, printed, prints}
+use Rattle.epic_app.specs.Claims.{HopHolds, RunHolds, RunsHold, HoldsUnder}
+use Rattle.epic_app.specs.Doing.{Progress, by_commands, by_topology, doing, ends, hop_done, on_commands, on_topology, run_done, whole, within}
+use Rattle.epic_app.specs.FaultLines.{fault_line, long_topology_line, read_line, too_long_line, topology_line}
+use Rattle.epic_app.specs.FilesRead.{IsTakenUp}
 use Rattle.epic_app.specs.HopFile.{hop_rule}
-use Rattle.epic_app.specs.HopReport.{answers, is_forged}
-use Rattle.epic_app.specs.Request.{Request, Hop, Run, Contents, Ending, ending_of, hop_ending, hop_told, refused, too_long_line, run_ending, network_ending, script_ending, run_told, no_topology, long_topology_line, topology_line}
-use Rattle.epic_app.specs.Outcome.{World, ErrorSink, EndsByFiles, EndsUnder, HopHolds, RunHolds, HoldsUnder}
+use Rattle.epic_app.specs.HopReport.{answers, hop_report, is_forged}
+use Rattle.epic_app.specs.Limits.{file_limit, script_limit, topology_limit}
+use Rattle.epic_app.specs.Outcome.{ErrorSink, EndsBy, EndsUnder}
+use Rattle.epic_app.specs.Readings.{Reading, Whole, Failed, Unread, Holds, AreRead, IsRead}
+use Rattle.epic_app.specs.Request.{Request, Hop, Run}
+use Rattle.epic_app.specs.RunReport.{has_alarm, run_text}
+use Rattle.epic_app.specs.declared.hop_file.HopCommand.{HopCommand}
+use Rattle.epic_app.proofs.ActLaws.{printed-prints, steps_acts-prints}
+use Rattle.epic_app.proofs.AllOf.{all_map}
 use Rattle.epic_app.proofs.AnswersHold.{answers_hold}
+use Rattle.epic_app.proofs.ScriptCommands.{commands_taken}
 
--- the one file whose contents decided an ending
-from_contents : (key name : List ℕ) (contents : Contents) (ending : Ending) → ending_of (Hop key name) contents ≡ Some ending →
-    (file : Option (List ℕ)) × (contents ≡ file ∷ []) × (option_map (hop_ending key) file ≡ Some ending)
-from_contents key name [] ending is = cc
-from_contents key name (file ∷ []) ending is = (file, refl, is)
-from_contents key name (file ∷ more ∷ files) ending is = cc
+-- ---- what decided a status of 0 or 1
 
--- the file that decided an ending
-from_file : (key : List ℕ) (file : Option (List ℕ)) (ending : Ending) →
-    option_map (hop_ending key) file ≡ Some ending →
-    (bytes : List ℕ) × (file ≡ Some bytes) × (hop_ending key bytes ≡ ending)
-from_file key None ending is = cc
-from_file key (Some bytes) ending is = (bytes, refl, cc)
+abbrev IsEnd : Progress → ℕ → Type 0
+IsEnd p status = (line : List ℕ) × (p.ending ≡ Some (status, line))
 
--- an ending of status 0 or 1 is of a file within the limit
-from_limit : (key : List ℕ) (t : Result (List HopCommand) Fault) (past : Bool) (ending : Ending) →
-    cond past (refused too_long_line) (hop_told key t) ≡ ending → ending.status < 2 →
-    hop_told key t ≡ ending
-from_limit key t true ending is below = absurd (omega (arith, ap (λ (e : Ending). e.status) is, below))
-from_limit key t false ending is below = is
+abbrev ended_by : Option (ℕ × List ℕ) → ℕ
+ended_by None = 0
+ended_by (Some ending) = ending.0
 
--- and of commands
-from_told : (key : List ℕ) (t : Result (List HopCommand) Fault) (ending : Ending) → hop_told key t ≡ ending →
-    ending.status < 2 →
-    (commands : List HopCommand) × (t ≡ Ok commands) × (ending ≡ hop_told key (Ok commands))
-from_told key (Ok commands) ending is below = (commands, refl, sym is)
-from_told key (Err (line, kind)) ending is below = absurd (omega (arith, ap (λ (e : Ending). e.status) is, below))
+status_by : (n : ℕ) (text : List ℕ) (status : ℕ) (line : List ℕ) → ◌≡◌ {A = Option (ℕ × List ℕ)} (Some (n, text)) (Some (status, line)) → n ≡ status
+status_by n text status line is = ap ended_by is
+
+-- the status of an end
+abbrev ended_status : Progress → ℕ
+ended_status p = ended_by p.ending
+
+ended_at : (p : Progress) (status : ℕ) → IsEnd p status → ended_status p ≡ status
+ended_at p status (line, is) = ap ended_by is
+
+-- another status
+no_end : (acts : List Act) (n : ℕ) (line : List ℕ) (status : ℕ) → 1 < n → status < 2 → IsEnd (ends acts n line) status → ⊥
+no_end acts n line status many below (told, is) = omega (arith, status_by n line status told is, many, below)
+
+-- the commands of a file decided
+record ByCommands {C : Type 0} (name : List ℕ) (limit : ℕ) (rule : Rule C) (reading : Reading) (next : List C → Progress) : Type 0 where
+  bytes : List ℕ
+  is_whole : reading ≡ Whole bytes
+  commands : List C
+  are : commands_of rule bytes ≡ Ok commands
+  leads : on_commands name limit rule reading next ≡ next commands
+
+commands_decide : {C : Type 0} (name : List ℕ) (limit : ℕ) (rule : Rule C) (reading : Reading) (next : List C → Progress) (status : ℕ)
+    → status < 2 → IsEnd (on_commands name limit rule reading next) status → ByCommands name limit rule reading next
+unfolding on_commands whole within by_commands
+commands_decide name limit rule (Failed front) next status below end = absurd (no_end [] 6 (read_line name) status (omega arith) below end)
+commands_decide name limit rule Unread next status below (line, is) = absurd (cc)
+commands_decide {C} name limit rule (Whole bytes) next status below end = by (ltb limit (length bytes)) (commands_of rule bytes) refl refl end
+  where
+    by : (long : Bool) (r : Result (List C) Fault) → ltb limit (length bytes) ≡ long → commands_of rule bytes ≡ r
+        → IsEnd (cond long (ends [] 4 too_long_line) (by_commands r next)) status → ByCommands name limit rule (Whole bytes) next
+    by true r e is end = absurd (no_end [] 4 too_long_line status (omega arith) below end)
+    by false (Err (line, kind)) e is end = absurd (no_end [] 4 (fault_line line kind) status (omega arith) below end)
+    by false (Ok commands) e is end = record { bytes = bytes; is_whole = refl; commands = commands; are = is; leads = rw (e, is) refl }
+
+-- the topology of a file decided
+record ByTopology (name : List ℕ) (reading : Reading) (next : Network → Progress) : Type 0 where
+  bytes : List ℕ
+  is_whole : reading ≡ Whole bytes
+  network : Network
+  is : topology bytes ≡ Ok network
+  leads : on_topology name reading next ≡ next network
+
+topology_decides : (name : List ℕ) (reading : Reading) (next : Network → Progress) (status : ℕ)
+    → status < 2 → IsEnd (on_topology name reading next) status → ByTopology name reading next
+unfolding on_topology whole within by_topology
+topology_decides name (Failed front) next status below end = absurd (no_end [] 6 (read_line name) status (omega arith) below end)
+topology_decides name Unread next status below (line, is) = absurd (cc)
+topology_decides name (Whole bytes) next status below end = by (ltb topology_limit (length bytes)) (topology bytes) refl refl end
+  where
+    by : (long : Bool) (r : Result Network TopoError) → ltb topology_limit (length bytes) ≡ long → topology bytes ≡ r
+        → IsEnd (cond long (ends [] 3 long_topology_line) (by_topology r next)) status → ByTopology name (Whole bytes) next
+    by true r e is end = absurd (no_end [] 3 long_topology_line status (omega arith) below end)
+    by false (Err (Bad kind key item)) e is end = absurd (no_end [] 3 (topology_line kind key item) status (omega arith) below end)
+    by false (Err OutOfMemory) e is (line, none) = absurd (cc)
+    by false (Ok t) e is end = record { bytes = bytes; is_whole = refl; network = t; is = is; leads = rw (e, is) refl }
+
+-- ---- counts of alarms
 
 one_more : (b : Bool) (n : ℕ) (r : Bool) → ltb 0 n ≡ r → ltb 0 (cond b 1 0 + n) ≡ (b || r)
 one_more true n r is = grind (arith, nat_tests)
@@ -65,111 +110,96 @@ any_count : {X : Type 0} (p : X → Bool) (xs : List X) → ltb 0 (count_by p xs
 any_count p [] = refl
 any_count p (x ∷ xs) = ap (ltb 0) (sum_by-cons (λ y. cond (p y) 1 0) x xs) ∙ one_more (p x) (count_by p xs) (list_any p xs) (any_count p xs)
 
-status_one : (b c : Bool) (status : ℕ) → b ≡ c → status ≡ cond b 1 0 → (status ≡ 1) ↔ IsTrue c
-status_one true c status same is = (λ h. sym same, λ h. is)
+status_one : (b c : Bool) (status : ℕ) → b ≡ c → cond b 1 0 ≡ status → (status ≡ 1) ↔ IsTrue c
+status_one true c status same is = (λ h. sym same, λ h. sym is)
 status_one false c status same is = (λ h. absurd (omega (arith, is, h)), λ h. cc)
 
-hop_holds : (key name : List ℕ) (old new : World) (status : ℕ) (line : List ℕ) →
-    EndsByFiles (Hop key name) old new status line → status < 2 → HopHolds key name old new status
-hop_holds key name old new status line by below =
-    let (file, are_contents, is_hop) = from_contents key name by.contents by.ending by.is_ending in
-    let below_two : by.ending.status < 2 = omega (arith, by.same_status, below) in
-    let (bytes, is_file, is_ending) = from_file key file by.ending is_hop in
-    let told = from_limit key (commands_of hop_rule bytes) _ by.ending is_ending below_two in
-    let (commands, are, decided) = from_told key (commands_of hop_rule bytes) by.ending told below_two in
+-- ---- reports
+
+-- a text was printed
+text_printed : (p : Progress) (text : List ℕ) (old new : World) → p.acts ≡ prints text → Does p.acts old new → Appends old.written new.written text
+text_printed p text old new are done =
+    let P = Appends old.written new.written in subst P (ap printed are ∙ printed-prints text) done.output
+
+-- a whole file that was read holds its bytes
+file_held : (old new : World) (name : List ℕ) (reading : Reading) (bytes : List ℕ) → reading ≡ Whole bytes → IsRead old new name reading → Holds old.contents name bytes
+file_held old new name reading bytes is read = let P = IsRead old new name in subst P is read
+
+-- the answers of `hop`
+hop_claims : (key name : List ℕ) (old new : World) (reading : Reading) (status : ℕ) → IsRead old new name reading → status < 2
+    → IsEnd (doing (Hop key name) (reading ∷ [])) status → Does (doing (Hop key name) (reading ∷ [])).acts old new → HopHolds key name old new status
+unfolding doing hop_done
+hop_claims key name old new reading status read below end done =
+    let by = commands_decide name file_limit hop_rule reading (hop_done key) status below end in
     record {
-      bytes = bytes;
-      is_file = rw (are_contents ∙ ap (λ f. f ∷ []) is_file) at by.as_told;
-      commands = commands;
-      are_commands = are;
-      given = answers key commands;
-      hold = answers_hold key [] commands;
-      report = rw decided at by.report;
-      forged = status_one (ltb 0 (count_by is_forged (answers key commands))) (list_any is_forged (answers key commands)) status (any_count is_forged (answers key commands)) (by.same_status ∙ ap (λ (e : Ending). e.status) decided);
+      bytes = by.bytes;
+      is_file = file_held old new name reading by.bytes by.is_whole read;
+      commands = by.commands;
+      are_commands = by.are;
+      given = answers key by.commands;
+      hold = answers_hold key [] by.commands;
+      report = text_printed (doing (Hop key name) (reading ∷ [])) (hop_report key by.commands) old new (ap (λ (p : Progress). p.acts) by.leads) done;
+      forged = status_one (ltb 0 (count_by is_forged (answers key by.commands))) (list_any is_forged (answers key by.commands)) status
+          (any_count is_forged (answers key by.commands))
+          (sym (ap (λ (p : Progress). ended_status p) by.leads) ∙ ended_at (doing (Hop key name) (reading ∷ [])) status end);
     }
 
--- ---- a run
-
--- the two files whose contents decided an ending
-run_contents : (m n : List ℕ) (contents : Contents) (ending : Ending) → ending_of (Run m n) contents ≡ Some ending
-    → (first : Option (List ℕ)) × (second : Option (List ℕ)) × (contents ≡ first ∷ second ∷ []) × (option_and_then (λ t. run_ending t second) first ≡ Some ending)
-run_contents m n [] ending is = absurd (cc)
-run_contents m n (first ∷ []) ending is = absurd (cc)
-run_contents m n (first ∷ second ∷ []) ending is = (first, second, refl, is)
-run_contents m n (first ∷ second ∷ third ∷ more) ending is = absurd (cc)
-
--- the first is there
-from_first : (first second : Option (List ℕ)) (ending : Ending) → option_and_then (λ t. run_ending t second) first ≡ Some ending
-    → (text : List ℕ) × (first ≡ Some text) × (run_ending text second ≡ Some ending)
-from_first None second ending is = absurd (cc)
-from_first (Some text) second ending is = (text, refl, is)
-
--- an ending of status 0 or 1 is of a topology
-from_text : (r : Result Network TopoError) (past : Bool) (second : Option (List ℕ)) (ending : Ending)
-    → cond past (Some (no_topology long_topology_line)) (network_ending r second) ≡ Some ending → ending.status < 2
-    → (t : Network) × (r ≡ Ok t) × (option_map (script_ending t) second ≡ Some ending)
-from_text r true second ending is below =
-    let same : no_topology long_topology_line ≡ ending = cc in
-    absurd (omega (arith, ap (λ (e : Ending). e.status) same, below))
-from_text (Ok t) false second ending is below = (t, refl, is)
-from_text (Err (Bad kind key item)) false second ending is below =
-    let same : no_topology (topology_line kind key item) ≡ ending = cc in
-    absurd (omega (arith, ap (λ (e : Ending). e.status) same, below))
-from_text (Err OutOfMemory) false second ending is below = absurd (cc)
-
-from_second : (t : Network) (second : Option (List ℕ)) (ending : Ending) → option_map (script_ending t) second ≡ Some ending
-    → (script : List ℕ) × (second ≡ Some script) × (script_ending t script ≡ ending)
-from_second t None ending is = absurd (cc)
-from_second t (Some script) ending is = (script, refl, cc)
-
-from_script : (t : Network) (r : Result (List Command) Fault) (past : Bool) (ending : Ending)
-    → cond past (refused too_long_line) (run_told t r) ≡ ending → ending.status < 2
-    → (commands : List Command) × (r ≡ Ok commands) × (ending ≡ run_told t (Ok commands))
-from_script t r true ending is below = absurd (omega (arith, ap (λ (e : Ending). e.status) is, below))
-from_script t (Ok commands) false ending is below = (commands, refl, sym is)
-from_script t (Err (line, kind)) false ending is below = absurd (omega (arith, ap (λ (e : Ending). e.status) is, below))
-
--- what each of a list keeps
-all_map : {X : Type 0} (P Q : X → Type 0) (xs : List X) → ((x : X) → P x → Q x) → All P xs → All Q xs
-all_map P Q xs f h = λ k d within. f (get_or xs k d) (h k d within)
-
-every_verdict_holds : StartIsSound → RunsAreSound → (t : Network) (text script : List ℕ) (commands : List Command) → topology text ≡ Ok t → commands_of run_rule script ≡ Ok commands
-    → All (VerdictsHold t) (run t commands)
-unfolding run
-every_verdict_holds start_sound runs_sound t text script commands is are =
-    let lawful : IsTopology t = at_ok IsTopology (topology text) t is (read_lawful text) in
-    let bytes = all_map IsTakenUp CarriesBytes commands (λ c taken. taken.bytes) (commands_taken script commands are) in
-    let sound = (runs_sound t start commands lawful (start_sound t) bytes).0 in
-    all_map (IsSoundStep t) (VerdictsHold t) (run_from t start commands) (λ d step. step.verdicts) sound
-
-run_holds : StartIsSound → RunsAreSound → (m n : List ℕ) (old new : World) (status : ℕ) (line : List ℕ) → EndsByFiles (Run m n) old new status line → status < 2
-    → RunHolds m n old new status
-run_holds start_sound runs_sound m n old new status line by below =
-    let below_two : by.ending.status < 2 = omega (arith, by.same_status, below) in
-    let (first, second, are_contents, is_run) = run_contents m n by.contents by.ending by.is_ending in
-    let (text, is_text, is_text_ending) = from_first first second by.ending is_run in
-    let (t, is_network, is_network_ending) = from_text (topology text) (ltb TOPOLOGY_LIMIT (length text)) second by.ending is_text_ending below_two in
-    let (script, is_script, is_script_ending) = from_second t second by.ending is_network_ending in
-    let (commands, are, decided) = from_script t (commands_of run_rule script) (ltb SCRIPT_LIMIT (length script)) by.ending is_script_ending below_two in
+run_claims : RunsHold → (m n : List ℕ) (old new : World) (first second : Reading) (status : ℕ) → IsRead old new m first → IsRead old new n second → status < 2
+    → IsEnd (doing (Run m n) (first ∷ second ∷ [])) status → Does (doing (Run m n) (first ∷ second ∷ [])).acts old new → RunHolds m n old new status
+unfolding doing run_done
+run_claims runs_hold m n old new first second status read read_too below end done =
+    let next : Network → Progress = λ t. on_commands n script_limit run_rule second (run_done t) in
+    let top = topology_decides m first next status below end in
+    let end_next : IsEnd (next top.network) status = let P : Progress → Type 0 = λ p. IsEnd p status in subst P top.leads end in
+    let by = commands_decide n script_limit run_rule second (run_done top.network) status below end_next in
+    let leads = top.leads ∙ by.leads in
+    let steps = run top.network by.commands in
+    let lawful : IsTopology top.network = at_ok IsTopology (topology top.bytes) top.network top.is (read_lawful top.bytes) in
+    let bytes = all_map IsTakenUp CarriesBytes by.commands (λ c taken. taken.bytes) (commands_taken by.bytes by.commands by.are) in
+    let holds = runs_hold top.network by.commands lawful bytes in
     record {
-      text = text;
-      bytes = script;
-      are_files = rw (are_contents ∙ ap (λ o. o ∷ second ∷ []) is_text ∙ ap (λ o. Some text ∷ o ∷ []) is_script) at by.as_told;
-      network = t;
-      is_network = is_network;
-      commands = commands;
-      are_commands = are;
-      hold = every_verdict_holds start_sound runs_sound t text script commands is_network are;
-      report = rw decided at by.report;
-      alarm = status_one (has_alarm (run t commands)) (has_alarm (run t commands)) status refl (by.same_status ∙ ap (λ (e : Ending). e.status) decided);
+      text = top.bytes;
+      bytes = by.bytes;
+      is_topology = file_held old new m first top.bytes top.is_whole read;
+      is_script = file_held old new n second by.bytes by.is_whole read_too;
+      network = top.network;
+      is_network = top.is;
+      commands = by.commands;
+      are_commands = by.are;
+      states = holds.0;
+      last = holds.1;
+      verdicts = holds.2;
+      report = text_printed (doing (Run m n) (first ∷ second ∷ [])) (run_text top.network steps) old new (ap (λ (p : Progress). p.acts) leads ∙ steps_acts-prints top.network steps) done;
+      alarm = status_one (has_alarm steps) (has_alarm steps) status refl (sym (ap (λ (p : Progress). ended_status p) leads) ∙ ended_at (doing (Run m n) (first ∷ second ∷ [])) status end);
     }
 
-pub holds_under : StartIsSound → RunsAreSound → (request : Option Request) (old new : World) (e f : ErrorSink) (status : ℕ) →
-    EndsUnder request old new e f status → HoldsUnder request old new status
-holds_under start_sound runs_sound None old new e f status ended = tt
-holds_under start_sound runs_sound (Some (Hop key name)) old new e f status ended = λ below.
-    let (line, by, tells) = ended.by_files (omega (arith, below)) in
-    hop_holds key name old new status line by below
-holds_under start_sound runs_sound (Some (Run m n)) old new e f status ended = λ below.
-    let (line, by, tells) = ended.by_files (omega (arith, below)) in
-    run_holds start_sound runs_sound m n old new status line by below
+-- ---- the whole
+
+-- a status below 6 was decided by what was read
+decided : (p : Progress) (old new : World) (e f : ErrorSink) (status : ℕ) → EndsBy p old new e f status → status < 2 → IsEnd p status × Does p.acts old new
+decided p old new e f status (inl by) below = ((by.line, by.is_ending), by.done)
+decided p old new e f status (inr (inl by)) below = absurd (omega (arith, by.is_status, below))
+decided p old new e f status (inr (inr by)) below = absurd (omega (arith, by.is_status, below))
+
+hop_holds : (key name : List ℕ) (old new : World) (e f : ErrorSink) (status : ℕ) (readings : List Reading) → AreRead old new (name ∷ []) readings
+    → EndsBy (doing (Hop key name) readings) old new e f status → status < 2 → HopHolds key name old new status
+hop_holds key name old new e f status [] read by below = absurd read
+hop_holds key name old new e f status (reading ∷ []) (read, none) by below =
+    let (end, done) = decided _ old new e f status by below in
+    hop_claims key name old new reading status read below end done
+hop_holds key name old new e f status (reading ∷ second ∷ more) (read, many) by below = absurd many
+
+run_holds : RunsHold → (m n : List ℕ) (old new : World) (e f : ErrorSink) (status : ℕ) (readings : List Reading) → AreRead old new (m ∷ n ∷ []) readings
+    → EndsBy (doing (Run m n) readings) old new e f status → status < 2 → RunHolds m n old new status
+run_holds runs_hold m n old new e f status [] read by below = absurd read
+run_holds runs_hold m n old new e f status (first ∷ []) (read, few) by below = absurd few
+run_holds runs_hold m n old new e f status (first ∷ second ∷ []) (read, (read_too, none)) by below =
+    let (end, done) = decided _ old new e f status by below in
+    run_claims runs_hold m n old new first second status read read_too below end done
+run_holds runs_hold m n old new e f status (first ∷ second ∷ third ∷ more) (read, (read_too, many)) by below = absurd many
+
+pub holds_under : RunsHold → (request : Option Request) (old new : World) (e f : ErrorSink) (status : ℕ)
+    → EndsUnder request old new e f status → HoldsUnder request old new status
+holds_under runs_hold None old new e f status ended = tt
+holds_under runs_hold (Some (Hop key name)) old new e f status ended = λ below. hop_holds key name old new e f status ended.readings ended.are_read ended.ends below
+holds_under runs_hold (Some (Run m n)) old new e f status ended = λ below. run_holds runs_hold m n old new e f status ended.readings ended.are_read ended.ends below

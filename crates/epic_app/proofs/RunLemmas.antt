@@ -23,7 +23,8 @@ use Rattle.epic_world.specs.Stepped.{Stepped}
 use Rattle.epic_world.specs.Turning.{turned_at, turned_by, accepted_at}
 use Rattle.epic_world.specs.Run.{Done, done_by, run_from, state_after, run}
 use Rattle.epic_world.specs.State.{State, start}
-use Rattle.epic_app.specs.RunReport.{step_text, steps_text, run_text, all_verdicts, verdicts_in, is_alarm, has_alarm, count_all}
+use Rattle.epic_app.specs.RunReport.{step_text, steps_text, run_text, all_verdicts, verdicts_in, is_alarm, has_alarm}
+use Rattle.epic_app.specs.StepLines.{count_all}
 
 -- ---- commands in two parts
 

@@ -21,7 +21,7 @@ use Rattle.epic_text.specs.RunScript.{run_rule, on_word, at_of, originate_of, ex
 use Rattle.epic_text.specs.Script.{Fault, line_command, words_command, some_command, is_comment, at_line, numbered, commands_after, commands_of, with_front}
 use Rattle.epic_world.specs.Next.{is_taken, HasMoment}
 use Rattle.epic_world.specs.Sound.{CarriesBytes}
-use Rattle.epic_app.specs.RunFiles.{IsTakenUp}
+use Rattle.epic_app.specs.FilesRead.{IsTakenUp}
 
 -- ---- words
 

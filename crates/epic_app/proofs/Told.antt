@@ -14,7 +14,7 @@ use Rattle.epic_num.specs.declared.path_ref.PathRef.{PathRef}
 use Rattle.epic_ledger.specs.Facts.{as_issue}
 use Rattle.epic_ledger.specs.declared.event.Event.TheVariants as event
 use Rattle.epic_text.specs.Report.{bytes_in}
-use Rattle.epic_app.specs.RunReport.{issued_in, is_carried, ShowsBytes}
+use Rattle.epic_app.specs.StepLines.{issued_in, is_carried, ShowsBytes}
 use Rattle.epic_num.specs.declared.command.Command.{Command}
 use Rattle.epic_num.specs.declared.command.Command.TheVariants as command
 use Rattle.epic_num.specs.declared.hop.HopName.{HopName}
@@ -26,9 +26,11 @@ use Rattle.epic_layout.specs.Contents.{Contents, hop_count}
 use Rattle.epic_layout.specs.Layout.{parse}
 use Rattle.epic_layout.specs.Route.{place, is_first}
 use Rattle.epic_topo.specs.Network.{Network, has}
-use Rattle.epic_keys.specs.Issues.{IssuesKept}
+use Rattle.epic_fields.specs.Issues.{IssuesKept}
 use Rattle.epic_beacon.specs.declared.beacon.Beacon.{Beacon}
 use Rattle.epic_beacon.specs.Issuing.{originated, extended}
+use Rattle.epic_beacon.specs.Segments.{segments}
+use Rattle.epic_beacon.specs.Told.{beacons_in}
 use Rattle.epic_fields.specs.HopChecks.{hop_name}
 use Rattle.epic_fields.specs.PacketTags.{field_name}
 use Rattle.epic_path.specs.Routes.{all_lawful}
@@ -43,9 +45,10 @@ use Rattle.epic_audit.specs.ForgedText.{has_form, fits_level}
 use Rattle.epic_audit.specs.Kept.{Kept, PassesKept}
 use Rattle.epic_audit.specs.Verdicts.{hop_lines, hop_verdict, broken, broken_between, broken_chain, parent_name}
 use Rattle.epic_keys.specs.Keys.{owner}
-use Rattle.epic_text.specs.Report.{IsToldAnswer, Shows, issued_name, no_name}
+use Rattle.epic_text.specs.Report.{IsToldAnswer, Shows, issued_name}
+use Rattle.epic_num.specs.Chains.{no_name}
 use Rattle.epic_text.specs.VerdictText.{IsTellable}
-use Rattle.epic_world.specs.State.{State, store_in, generation_in, is_known_in, segments_in}
+use Rattle.epic_world.specs.State.{State, store_in, rolls, is_known_in}
 use Rattle.epic_world.specs.Stepped.{answered, refused, recorded}
 use Rattle.epic_world.specs.Turning.{passed, turned_at, turned_by, accepted_at}
 use Rattle.epic_world.specs.Next.{next, next_at, next_originate, next_extend, next_fetch, next_paths, next_turn, issued, most_paths, is_taken}
@@ -141,14 +144,14 @@ turned_told t s a iface bytes candidates (Refused check hop) here kept right = r
 
 at_told : (t : Network) (s : State) (a : AsId) (iface : ℕ) (bytes : List ℕ) (full : Bool) → IsTrue (has t a) → Kept t (facts_of s.history)
     → IsToldAnswer t None bytes
-    (cond full (answered s (passed a iface Full 0 [])) (turned_by t s a iface bytes (turn_of t a (generation_in s.history.events a ∷ []) iface s.moment bytes))).answer
+    (cond full (answered s (passed a iface Full 0 [])) (turned_by t s a iface bytes (turn_of t a (rolls s.history.events a ∷ []) iface s.moment bytes))).answer
 at_told t s a iface bytes true here kept = record {
   packet = λ some. absurd (omega (arith, some));
   verdicts = All-nil (IsTellable t (parse bytes));
 }
 at_told t s a iface bytes false here kept =
-    turned_told t s a iface bytes (generation_in s.history.events a ∷ []) _ here kept
-    (turns_are_right t a (generation_in s.history.events a ∷ []) iface s.moment bytes)
+    turned_told t s a iface bytes (rolls s.history.events a ∷ []) _ here kept
+    (turns_are_right t a (rolls s.history.events a ∷ []) iface s.moment bytes)
 
 turn_told : (t : Network) (s : State) (a : AsId) (iface : ℕ) (bytes : List ℕ) (known : Bool) → has t a ≡ known → Kept t (facts_of s.history)
     → IsToldAnswer t None bytes (cond (not known) (refused s (UnknownAs a)) (turned_at t s a iface bytes)).answer
@@ -253,7 +256,7 @@ told t s (command.Fetch source of epoch) emissions before after taken =
     (not (has t source)) (not (has t of)) (is_known_in s.history.events (record { source = source; owner = of; epoch = epoch }))
     (UnknownAs source) (UnknownAs of) (event.Fetch (s.steps + 1) source of epoch)
 told t s (command.Paths from to) emissions before after taken =
-    let paths = all_lawful (segments_in t (issues_in s.history.events)) from to in
+    let paths = all_lawful (segments (beacons_in t (issues_in s.history.events))) from to in
     found_told t s (issues_in (next_paths t s from to).state.history.events) []
     (not (has t from)) (not (has t to)) (ltb most_paths (length paths)) (UnknownAs from) (UnknownAs to) TooManyPaths paths
 told t s (command.Turn a iface bytes) emissions before after taken = next_turn_told t s (issues_in (next_turn t s a iface bytes).state.history.events) a iface bytes before

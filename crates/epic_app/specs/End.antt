@@ -1,10 +1,16 @@
 -- How a command's code says that it ended.
-use Rattle.std.specs.Prelude.{◌≡◌, ℕ, ◌==◌, if◌then◌else◌, List, [], Option, Some, None, IsTrue}
-use Rattle.std.specs.List.{list_any}
+use Rattle.std.specs.Prelude.{◌≡◌, ℕ, if◌then◌else◌, Bool, List, [], Option, Some, None, Result, Ok, Err, Contains, ⊤}
+use Rattle.epic_ports.specs.Faults.{Rose}
+use Rattle.epic_ports.specs.declared.error.PortError.{PortError}
+use Rattle.epic_ports.specs.declared.error.PortError.TheVariants as port_error
 use Rattle.epic_app.specs.declared.end.End.{End}
 use Rattle.epic_app.specs.declared.end.End.TheVariants.{Done, BadWords, BadTopology, LongTopology, BadScript, LongScript, ReadFault, WriteFault, OutOfMemory}
-use Rattle.epic_app.specs.Request.{Request, statuses_of, fault_line, too_long_line, topology_line, long_topology_line}
-use Rattle.epic_app.specs.Outcome.{World, EndsByFiles, ReadFails, WriteFails, MemoryEnds, CountsStay, FilesStay, read_line, write_line, memory_line, words_line}
+use Rattle.epic_app.specs.Acts.{World, Does, StopsAt, StopsBefore}
+use Rattle.epic_app.specs.Doing.{Progress, doing}
+use Rattle.epic_app.specs.FaultLines.{words_line, topology_line, long_topology_line, fault_line, too_long_line, read_line, write_line, memory_line}
+use Rattle.epic_app.specs.Outcome.{CountsStay, FilesStay, WriteRose}
+use Rattle.epic_app.specs.Readings.{Reading, AreRead}
+use Rattle.epic_app.specs.Request.{Request, reads_of}
 
 abbrev pub status_of : End → ℕ
 status_of (Done forged) = if forged then 1 else 0
@@ -29,24 +35,29 @@ line_of (ReadFault name) = read_line name.now
 line_of WriteFault = write_line
 line_of OutOfMemory = memory_line
 
-abbrev pub HasCause : Request → World → World → End → Type 0
-HasCause request old new (Done forged) = EndsByFiles request old new (if forged then 1 else 0) []
-HasCause request old new BadWords = ⊥
-HasCause request old new (BadScript line kind) = EndsByFiles request old new 4 (fault_line line kind)
-HasCause request old new LongScript = EndsByFiles request old new 4 too_long_line
-HasCause request old new (BadTopology kind key item) = EndsByFiles request old new 3 (topology_line kind key item)
-HasCause request old new LongTopology = EndsByFiles request old new 3 long_topology_line
-HasCause request old new (ReadFault name) = ReadFails request old new name.now
-HasCause request old new WriteFault = WriteFails request old new
-HasCause request old new OutOfMemory = MemoryEnds request old new
+-- what was read decides status and line, and all that it asks for was done
+pub record Decided (p : Progress) (old new : World) (status : ℕ) (line : List ℕ) : Type 0 where
+  pub is_ending : p.ending ≡ Some (status, line)
+  pub done : Does p.acts old new
 
-abbrev pub IsStatus : Request → End → Type 0
-IsStatus request end = IsTrue (list_any (λ s. s == status_of end) (statuses_of request))
+abbrev pub HasCause : Progress → World → World → End → Type 0
+HasCause p old new BadWords = ⊥
+HasCause p old new WriteFault = StopsAt p.acts old new
+HasCause p old new OutOfMemory = StopsBefore p.acts old new
+HasCause p old new end = Decided p old new (status_of end) (line_of end)
+
+-- the count that rose where a read or a write failed
+abbrev pub Blames : Request → World → World → End → Type 0
+Blames request old new (ReadFault name) = Contains (reads_of request) name.now × Rose (old.reads name.now) (new.reads name.now)
+Blames request old new WriteFault = WriteRose request old new
+Blames request old new end = ⊤
 
 -- a command that isn't refused for its words ended so
 pub record EndsAs (request : Request) (old new : World) (end : End) : Type 0 where
-  pub cause : HasCause request old new end
-  pub is_status : IsStatus request end
+  pub readings : List Reading
+  pub are_read : AreRead old new (reads_of request) readings
+  pub cause : HasCause (doing request readings) old new end
+  pub blames : Blames request old new end
   pub counts : CountsStay request old new
   pub files : FilesStay request old.contents new.contents
 
@@ -54,3 +65,9 @@ pub record EndsAs (request : Request) (old new : World) (end : End) : Type 0 whe
 abbrev pub Performs : Option Request → World → World → End → Type 0
 Performs None old new end = (end ≡ BadWords) × (new ≡ old)
 Performs (Some request) old new end = EndsAs request old new end
+
+-- the end of a command that answers this to the writing of its report
+abbrev pub end_after : Result Bool PortError → End
+end_after (Ok forged) = Done forged
+end_after (Err port_error.Failed) = WriteFault
+end_after (Err port_error.OutOfMemory) = OutOfMemory

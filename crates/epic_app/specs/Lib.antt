@@ -1,9 +1,16 @@
+pub mod Acts
+pub mod Claims
+pub mod Doing
 pub mod End
+pub mod FaultLines
+pub mod FilesRead
 pub mod HopFile
 pub mod HopReport
+pub mod Limits
 pub mod Outcome
+pub mod Readings
 pub mod Request
-pub mod RunFiles
 pub mod RunReport
 pub mod Spelling
+pub mod StepLines
 pub mod Writing

@@ -1,36 +1,22 @@
 -- The report of a run: the lines of its steps in order, and the counts of its verdicts.
-use Rattle.std.specs.Prelude.{◌≡◌, ℕ, ◌||◌, Bool, true, false, List, [], ◌∷◌, ◌++◌, length, flat_map, Option, None, ⊤}
+use Rattle.std.specs.Prelude.{ℕ, ◌||◌, Bool, List, [], ◌++◌, length, flat_map}
 use Rattle.std.specs.List.{list_any}
 use Rattle.std.specs.Option.{option_map_or}
 use Rattle.epic_num.specs.declared.answer.Answer.{Answer}
-use Rattle.epic_num.specs.declared.answer.Answer.TheVariants.{Issued, Sent, Passed, Carried}
+use Rattle.epic_num.specs.declared.answer.Answer.TheVariants.{Passed, Carried}
 use Rattle.epic_num.specs.declared.command.Command.{Command}
-use Rattle.epic_num.specs.declared.hop.HopName.{HopName}
 use Rattle.epic_num.specs.declared.verdict.Verdict.{Verdict}
-use Rattle.epic_num.specs.Chains.{Issue, name_of}
 use Rattle.epic_topo.specs.Network.{Network}
 use Rattle.epic_ledger.specs.Facts.{issues_in}
 use Rattle.epic_ledger.specs.History.{Emission, emission_at}
 use Rattle.epic_world.specs.Run.{Done}
 use Rattle.epic_world.specs.State.{State}
-use Rattle.epic_text.specs.declared.counts.Counts.{Counts}
-use Rattle.epic_text.specs.Counts.{counted, counts_of, end_line, is_forged, is_collided}
+use Rattle.epic_text.specs.Counts.{counts_of, end_line, is_forged, is_collided}
 use Rattle.epic_text.specs.Report.{answer_text, issued_name, bytes_in}
 
 -- the bytes of an emission, none where it isn't there
 unfoldable pub emission_bytes : List Emission → ℕ → List ℕ
 emission_bytes emissions number = option_map_or (λ e. e.bytes) (emission_at emissions number) []
-
--- the name of the hop that an answer says was issued
-unfoldable pub issued_in : List Issue → Answer → Option HopName
-issued_in issues (Issued number) = name_of issues number
-issued_in issues answer = None
-
--- the bytes are those of the emission that an answer tells of
-abbrev pub ShowsBytes : (ℕ → List ℕ) → List ℕ → Answer → Type 0
-ShowsBytes emissions bytes (Sent emission ts) = emissions emission ≡ bytes
-ShowsBytes emissions bytes (Passed pass) = emissions pass.emission ≡ bytes
-ShowsBytes emissions bytes answer = ⊤
 
 -- the lines of an answer, over what was issued and emitted by then
 unfoldable pub answered_text : Network → Command → Answer → State → List ℕ
@@ -52,11 +38,6 @@ verdicts_in (Passed pass) = pass.verdicts.items
 verdicts_in (Carried passes) = flat_map (λ pass. pass.verdicts.items) passes
 verdicts_in answer = []
 
--- the answer is of an emission that was carried on
-abbrev pub is_carried : Answer → Bool
-is_carried (Carried passes) = true
-is_carried answer = false
-
 -- the verdicts of all steps
 unfoldable pub all_verdicts : List Done → List Verdict
 all_verdicts steps = flat_map (λ d. verdicts_in d.answer) steps
@@ -73,8 +54,3 @@ is_alarm v = is_forged v || is_collided v
 
 unfoldable pub has_alarm : List Done → Bool
 has_alarm steps = list_any is_alarm (all_verdicts steps)
-
--- counts with further verdicts
-unfoldable pub count_all : Counts → List Verdict → Counts
-count_all c [] = c
-count_all c (v ∷ vs) = count_all (counted c v) vs

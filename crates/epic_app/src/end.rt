@@ -2,11 +2,11 @@
 
 ghost use Rattle.std.specs.Prelude.{◌≡◌, ◌≤◌, flat_map, OnOk, OnErr};
 ghost use Rattle.epic_ports.specs.Faults.{FailsOnlyBy};
-ghost use Rattle.epic_ports.specs.Written.{Appends, AppendsFront};
+ghost use Rattle.epic_ports.specs.Written.{Appends, WritesBefore};
 ghost use Rattle.epic_text.specs.declared.script.ScriptKind.TheVariants.{BadWord};
-ghost use Rattle.epic_app.specs.End.{line_of, status_of};
+ghost use Rattle.epic_app.specs.End.{end_after, line_of, status_of};
+ghost use Rattle.epic_app.specs.FaultLines.{fault_line, named_line, topology_line};
 ghost use Rattle.epic_app.specs.Outcome.{Tells, error_sink};
-ghost use Rattle.epic_app.specs.Request.{fault_line, named_line, topology_line};
 
 use epic_ports::{PortError, Sink, write_all};
 use epic_text::ScriptKind;
@@ -61,11 +61,22 @@ impl End<'_> {
     }
 }
 
-/// Writes the pieces one after the other. After an error a front of them was written.
+/// The end of a command that answers this to the writing of its report.
+pub fn ended<'a>(written: Result<bool, PortError>) -> End<'a>
+    ensures { result ≡ end_after written }
+{
+    match written {
+        Ok(forged) => End::Done { forged },
+        Err(PortError::Failed) => End::WriteFault,
+        Err(PortError::OutOfMemory) => End::OutOfMemory,
+    }
+}
+
+/// Writes the pieces one after the other. After an error less of them was written.
 fn write_pieces<E: Sink>(err: &mut E, pieces: &[&[u8]]) -> Result<(), PortError>
     ensures ok { OnOk result (Appends (E.written err.old) (E.written err.new)
         (flat_map (λ piece. piece.now) pieces.now)) }
-    ensures err { OnErr result (AppendsFront (E.written err.old) (E.written err.new)
+    ensures err { OnErr result (WritesBefore (E.written err.old) (E.written err.new)
         (flat_map (λ piece. piece.now) pieces.now)) }
     ensures later { E.faults err.old ≤ E.faults err.new }
     ensures cause { FailsOnlyBy (E.faults err.old) (E.faults err.new) result }
@@ -80,7 +91,7 @@ fn write_pieces<E: Sink>(err: &mut E, pieces: &[&[u8]]) -> Result<(), PortError>
 fn write_named<E: Sink>(err: &mut E, line: u32, name: &[u8]) -> Result<(), PortError>
     ensures ok { OnOk result (Appends (E.written err.old) (E.written err.new)
         (named_line line name.now)) }
-    ensures err { OnErr result (AppendsFront (E.written err.old) (E.written err.new)
+    ensures err { OnErr result (WritesBefore (E.written err.old) (E.written err.new)
         (named_line line name.now)) }
     ensures cause { FailsOnlyBy (E.faults err.old) (E.faults err.new) result }
 {
@@ -101,7 +112,7 @@ fn write_named<E: Sink>(err: &mut E, line: u32, name: &[u8]) -> Result<(), PortE
 fn write_fault<E: Sink>(err: &mut E, line: u32, kind: ScriptKind) -> Result<(), PortError>
     ensures ok { OnOk result (Appends (E.written err.old) (E.written err.new)
         (fault_line line kind)) }
-    ensures err { OnErr result (AppendsFront (E.written err.old) (E.written err.new)
+    ensures err { OnErr result (WritesBefore (E.written err.old) (E.written err.new)
         (fault_line line kind)) }
     ensures cause { FailsOnlyBy (E.faults err.old) (E.faults err.new) result }
 {
@@ -118,7 +129,7 @@ fn write_fault<E: Sink>(err: &mut E, line: u32, kind: ScriptKind) -> Result<(), 
 fn write_bad_word<E: Sink>(err: &mut E, line: u32, word: u32) -> Result<(), PortError>
     ensures ok { OnOk result (Appends (E.written err.old) (E.written err.new)
         (fault_line line (BadWord word))) }
-    ensures err { OnErr result (AppendsFront (E.written err.old) (E.written err.new)
+    ensures err { OnErr result (WritesBefore (E.written err.old) (E.written err.new)
         (fault_line line (BadWord word))) }
     ensures cause { FailsOnlyBy (E.faults err.old) (E.faults err.new) result }
 {
@@ -145,7 +156,7 @@ fn write_topology_fault<E: Sink>(
 ) -> Result<(), PortError>
     ensures ok { OnOk result (Appends (E.written err.old) (E.written err.new)
         (topology_line kind key item)) }
-    ensures err { OnErr result (AppendsFront (E.written err.old) (E.written err.new)
+    ensures err { OnErr result (WritesBefore (E.written err.old) (E.written err.new)
         (topology_line kind key item)) }
     ensures cause { FailsOnlyBy (E.faults err.old) (E.faults err.new) result }
 {
@@ -167,7 +178,7 @@ fn write_topology_fault<E: Sink>(
 /// Writes the line of `end`, if it has one.
 fn write_end<E: Sink>(err: &mut E, end: &End<'_>) -> Result<(), PortError>
     ensures ok { OnOk result (Appends (E.written err.old) (E.written err.new) (line_of end.now)) }
-    ensures err { OnErr result (AppendsFront (E.written err.old) (E.written err.new)
+    ensures err { OnErr result (WritesBefore (E.written err.old) (E.written err.new)
         (line_of end.now)) }
     ensures cause { FailsOnlyBy (E.faults err.old) (E.faults err.new) result }
 {

@@ -2,15 +2,15 @@
 
 ghost use Rattle.std.specs.Prelude.{◌≡◌, ◌+◌, ◌^◌, ◌<◌, ◌≤◌, length, count_by, nat_lt, if◌then◌else◌, IfOk, OnOk, OnErr};
 ghost use Rattle.std.specs.String.{string_bytes};
-ghost use Rattle.epic_ports.specs.Written.{Appends, AppendsFront};
 ghost use Rattle.epic_app.specs.declared.hop_answer.HopAnswer.TheVariants.{Issued, Forged};
 ghost use Rattle.epic_app.specs.HopReport.{answers, end_text, is_accept, hop_report, is_forged, line_text};
-ghost use Rattle.epic_app.specs.Writing.{WriteFailsBy};
+ghost use Rattle.epic_app.specs.Writing.{Writes};
 
 use crate::hop_answer::{HopAnswer, answer};
 use crate::hop_file::HopCommand;
+use crate::writing::write_text;
 use epic_num::{Body, authenticator_message};
-use epic_ports::{PortError, Sink, write_all};
+use epic_ports::{PortError, Sink};
 use std::alloc::{AllocError, Global};
 
 /// The line of an issue.
@@ -69,15 +69,12 @@ fn write_line<O: Sink>(
     answer: &HopAnswer,
     out: &mut O,
 ) -> Result<(), PortError>
-    ensures ok { OnOk result (Appends (O.written out.old) (O.written out.new)
-        (line_text number answer.now)) }
-    ensures err { OnErr result (AppendsFront (O.written out.old) (O.written out.new)
-        (line_text number answer.now)) }
+    ensures text { Writes (line_text number answer.now)
+        (O.written out.old) (O.written out.new) (O.faults out.old) (O.faults out.new) result }
     ensures later { O.faults out.old ≤ O.faults out.new }
-    ensures cause { WriteFailsBy (O.faults out.old) (O.faults out.new) result }
 {
     let line = line(alloc, number, answer)?;
-    write_all(out, line.as_bytes())
+    write_text(line.as_bytes(), out)
 }
 
 /// Writes the last line.
@@ -88,15 +85,12 @@ fn write_last_line<O: Sink>(
     forged: usize,
     out: &mut O,
 ) -> Result<(), PortError>
-    ensures ok { OnOk result (Appends (O.written out.old) (O.written out.new)
-        (end_text commands accepted forged)) }
-    ensures err { OnErr result (AppendsFront (O.written out.old) (O.written out.new)
-        (end_text commands accepted forged)) }
+    ensures text { Writes (end_text commands accepted forged)
+        (O.written out.old) (O.written out.new) (O.faults out.old) (O.faults out.new) result }
     ensures later { O.faults out.old ≤ O.faults out.new }
-    ensures cause { WriteFailsBy (O.faults out.old) (O.faults out.new) result }
 {
     let line = last_line(alloc, commands, accepted, forged)?;
-    write_all(out, line.as_bytes())
+    write_text(line.as_bytes(), out)
 }
 
 /// `count`, or one more where `more` is true.
@@ -120,14 +114,11 @@ pub fn write_report<O: Sink>(
     out: &mut O,
 ) -> Result<bool, PortError>
     requires { length commands.now < 2 ^ 32 }
-    ensures ok { OnOk result (Appends (O.written out.old) (O.written out.new)
-        (hop_report key.now commands.now)) }
+    ensures text { Writes (hop_report key.now commands.now)
+        (O.written out.old) (O.written out.new) (O.faults out.old) (O.faults out.new) result }
     ensures forged { IfOk result (λ forged. forged ≡
         nat_lt 0 (count_by is_forged (answers key.now commands.now))) }
-    ensures err { OnErr result (AppendsFront (O.written out.old) (O.written out.new)
-        (hop_report key.now commands.now)) }
     ensures later { O.faults out.old ≤ O.faults out.new }
-    ensures cause { WriteFailsBy (O.faults out.old) (O.faults out.new) result }
 {
     let mut accepted = 0;
     let mut forged = 0;

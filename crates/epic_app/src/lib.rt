@@ -2,16 +2,18 @@
 #![tactic(auto)]
 
 mod end;
+mod files;
 mod hop;
 mod hop_answer;
 mod hop_file;
 mod hop_report;
+mod laws;
 mod run;
-mod run_files;
 mod run_report;
 mod spelling;
 mod top;
 mod words;
+mod writing;
 
 pub use top::epic;
 

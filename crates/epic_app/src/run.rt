@@ -1,16 +1,21 @@
 //! The command `run`: many actors over a topology, each acceptance with its verdict.
 
+ghost use Rattle.epic_app.specs.Acts.{world};
 ghost use Rattle.epic_app.specs.End.{EndsAs};
-ghost use Rattle.epic_app.specs.Outcome.{world};
 ghost use Rattle.epic_app.specs.Request.{Run};
 
-use crate::end::End;
-use crate::run_files::{script_in, topology_in};
+use crate::end::{End, ended};
+use crate::files::{commands_in, topology_in};
 use crate::run_report::write_run;
-use epic_ports::{PortError, Sink, Store};
+use epic_num::Command;
+use epic_ports::{Sink, Store};
 use std::alloc::Global;
 
-/// Reads and checks the whole topology and then the whole script, and does the script's commands one after the other.
+/// The greatest length of a script, in bytes.
+const SCRIPT_LIMIT: u64 = 16_777_216;
+
+/// Reads and checks the whole topology and then the whole script, and does the script's commands
+/// one after the other.
 pub fn run<'a, S: Store, O: Sink>(
     alloc: Global,
     topology: &'a str,
@@ -29,13 +34,9 @@ pub fn run<'a, S: Store, O: Sink>(
         Ok(topo) => topo,
         Err(end) => return end,
     };
-    let commands = match script_in(alloc, script, store) {
+    let commands = match commands_in::<Command, S>(alloc, script, SCRIPT_LIMIT, store) {
         Ok(commands) => commands,
         Err(end) => return end,
     };
-    match write_run(alloc, topo, &commands, out) {
-        Ok(forged) => End::Done { forged },
-        Err(PortError::Failed) => End::WriteFault,
-        Err(PortError::OutOfMemory) => End::OutOfMemory,
-    }
+    ended(write_run(alloc, topo, &commands, out))
 }

@@ -1,20 +1,21 @@
 //! The report of a run, step by step.
 
 ghost use Rattle.std.specs.Prelude.{ℕ, List, false, ◌≡◌, ◌+◌, ◌-◌, ◌^◌, ◌<◌, ◌≤◌, All, IsTrue, IfOk, OnOk, OnErr, length, nat_lt, ◌||◌};
-ghost use Rattle.epic_ports.specs.Written.{Appends, AppendsFront};
 ghost use Rattle.epic_audit.specs.Kept.{Kept};
 ghost use Rattle.epic_ledger.specs.Facts.{facts_of, issues_in};
 ghost use Rattle.epic_text.specs.Counts.{counts_of, end_line, total};
 ghost use Rattle.epic_text.specs.Report.{IsToldAnswer, Shows, bytes_in, issued_name};
 ghost use Rattle.epic_world.specs.Next.{is_taken, next};
 ghost use Rattle.epic_world.specs.Run.{done_by, run};
-ghost use Rattle.epic_app.specs.RunFiles.{IsTakenUp};
-ghost use Rattle.epic_app.specs.RunReport.{ShowsBytes, answered_text, count_all, emission_bytes, has_alarm, is_carried, issued_in, run_text, step_text, verdicts_in};
-ghost use Rattle.epic_app.specs.Writing.{WriteFailsBy};
+ghost use Rattle.epic_app.specs.FilesRead.{IsTakenUp};
+ghost use Rattle.epic_app.specs.RunReport.{answered_text, emission_bytes, has_alarm, run_text, step_text, verdicts_in};
+ghost use Rattle.epic_app.specs.StepLines.{ShowsBytes, count_all, is_carried, issued_in};
+ghost use Rattle.epic_app.specs.Writing.{Writes};
 
+use crate::writing::write_text;
 use epic_ledger::Ledger;
 use epic_num::{Answer, Command, HopName, OutOfMemory, Verdict};
-use epic_ports::{PortError, Sink, write_all};
+use epic_ports::{PortError, Sink};
 use epic_text::{Counts, Shown, counted, print_answer, print_end};
 use epic_topo::Topology;
 use epic_world::World;
@@ -33,7 +34,7 @@ fn came(command: &Command) -> &[u8]
 }
 
 /// The name of the hop that an answer says was issued.
-#[tactic(auto, unfolding(crate::specs::RunReport::issued_in, epic_num::specs::Chains::name_of, epic_ledger::specs::Facts::facts_of))]
+#[tactic(auto, unfolding(crate::specs::StepLines::issued_in, epic_num::specs::Chains::name_of, epic_ledger::specs::Facts::facts_of))]
 fn issued(ledger: &Ledger, answer: &Answer) -> Option<HopName>
     ensures { result ≡ issued_in (issues_in ledger.now.history.events) answer.now }
 {
@@ -121,7 +122,7 @@ fn count_each(counts: Counts, verdicts: &[Verdict]) -> Counts
 }
 
 /// The counts with the verdicts of an answer.
-#[tactic(auto, unfolding(crate::specs::RunReport::verdicts_in, crate::specs::RunReport::count_all))]
+#[tactic(auto, unfolding(crate::specs::RunReport::verdicts_in, crate::specs::StepLines::count_all))]
 fn count(counts: Counts, answer: &Answer) -> Counts
     requires alone { is_carried answer.now ≡ false }
     requires few { total counts < 2 ^ 63 }
@@ -151,12 +152,9 @@ fn write_step<O: Sink>(
     ensures counts { IfOk result (λ c. c ≡
         count_all counts (verdicts_in (next world.old.network world.old.state command.now).answer)) }
     ensures total { IfOk result (λ c. total c ≤ total counts + 2) }
-    ensures ok { OnOk result (Appends (O.written out.old) (O.written out.new)
-        (step_text world.old.network (done_by world.old.network world.old.state command.now))) }
-    ensures err { OnErr result (AppendsFront (O.written out.old) (O.written out.new)
-        (step_text world.old.network (done_by world.old.network world.old.state command.now))) }
+    ensures text { Writes (step_text world.old.network (done_by world.old.network world.old.state command.now))
+        (O.written out.old) (O.written out.new) (O.faults out.old) (O.faults out.new) result }
     ensures later { O.faults out.old ≤ O.faults out.new }
-    ensures cause { WriteFailsBy (O.faults out.old) (O.faults out.new) result }
 {
     // Before the step and after it the ledger is kept, so that the answer can be told.
     let _ = world.ledger();
@@ -169,22 +167,20 @@ fn write_step<O: Sink>(
         Ok(text) => text,
         Err(OutOfMemory) => return Err(PortError::OutOfMemory),
     };
-    write_all(out, &text)?;
+    write_text(&text, out)?;
     Ok(count(counts, &answer))
 }
 
 /// Writes the last line.
 fn write_end<O: Sink>(alloc: Global, counts: &Counts, out: &mut O) -> Result<(), PortError>
     requires { total counts.now < 2 ^ 63 }
-    ensures ok { OnOk result (Appends (O.written out.old) (O.written out.new) (end_line counts.now)) }
-    ensures err { OnErr result (AppendsFront (O.written out.old) (O.written out.new)
-        (end_line counts.now)) }
+    ensures text { Writes (end_line counts.now)
+        (O.written out.old) (O.written out.new) (O.faults out.old) (O.faults out.new) result }
     ensures later { O.faults out.old ≤ O.faults out.new }
-    ensures cause { WriteFailsBy (O.faults out.old) (O.faults out.new) result }
 {
     let mut line = Vec::new(alloc);
     match print_end(&mut line, counts) {
-        Ok(()) => write_all(out, &line),
+        Ok(()) => write_text(&line, out),
         Err(OutOfMemory) => Err(PortError::OutOfMemory),
     }
 }
@@ -207,13 +203,10 @@ pub fn write_run<O: Sink>(
 ) -> Result<bool, PortError>
     requires taken { All IsTakenUp commands.now }
     requires few { length commands.now ≤ 524288 }
-    ensures ok { OnOk result (Appends (O.written out.old) (O.written out.new)
-        (run_text topo (run topo commands.now))) }
+    ensures text { Writes (run_text topo (run topo commands.now))
+        (O.written out.old) (O.written out.new) (O.faults out.old) (O.faults out.new) result }
     ensures forged { IfOk result (λ forged. forged ≡ has_alarm (run topo commands.now)) }
-    ensures err { OnErr result (AppendsFront (O.written out.old) (O.written out.new)
-        (run_text topo (run topo commands.now))) }
     ensures later { O.faults out.old ≤ O.faults out.new }
-    ensures cause { WriteFailsBy (O.faults out.old) (O.faults out.new) result }
 {
     let mut world = World::new(alloc, topo);
     let mut counts = Counts::default();

@@ -1,5 +1,7 @@
+//! Tests of the command `run`.
+
 use crate::epic;
-use epic_ports::{MemSink, MemStore};
+use epic_ports::{MemSink, MemStore, NamedStore};
 use std::alloc::Global;
 use std::process::Abort;
 use std::test::Fail;
@@ -28,13 +30,30 @@ struct Run {
     err: MemSink,
 }
 
-/// `run t s` over a store with these two files, of whose reads one fails, counted from 1.
+/// Which calls fail.
+#[derive(Clone, Copy)]
+struct Faults<'a> {
+    /// The first read of this file, if it is there.
+    file: &'a str,
+    /// The write of this number, counted from 1.
+    write: u64,
+    /// The write of this number to the errors.
+    tell: u64,
+}
+
+const NO_FAULTS: Faults<'static> = Faults {
+    file: "",
+    write: 0,
+    tell: 0,
+};
+
+/// `run t s` over a store with these two files.
 fn run_files(
     rt: &impl Abort,
     alloc: Global,
-    topology: &str,
-    script: &str,
-    fails: u64,
+    topology: &[u8],
+    script: &[u8],
+    faults: &Faults<'_>,
 ) -> Result<Run, Fail> {
     let mut given = Vec::new(alloc);
     for word in ["run", "t", "s"] {
@@ -44,13 +63,19 @@ fn run_files(
     for (name, text) in [("t", topology), ("s", script)] {
         files.push((
             String::from_str(alloc, name)?,
-            Vec::from_slice(alloc, text.as_bytes())?,
+            Vec::from_slice(alloc, text)?,
         ))?;
     }
     assert!(rt; MemStore::names_differ(files.as_slice()));
-    let mut store = MemStore::new(files, Vec::from_slice(alloc, &[fails])?);
-    let mut out = MemSink::new(alloc, SPARE, SPARE, Vec::from_slice(alloc, &[0])?)?;
-    let mut err = MemSink::new(alloc, SPARE, SPARE, Vec::from_slice(alloc, &[0])?)?;
+    let below = MemStore::new(files, Vec::new(alloc));
+    let mut store = NamedStore::new(below, String::from_str(alloc, faults.file)?, false);
+    let mut out = MemSink::new(
+        alloc,
+        SPARE,
+        SPARE,
+        Vec::from_slice(alloc, &[faults.write])?,
+    )?;
+    let mut err = MemSink::new(alloc, SPARE, SPARE, Vec::from_slice(alloc, &[faults.tell])?)?;
     let status = epic(alloc, &given, &mut store, &mut out, &mut err);
     Ok(Run { status, out, err })
 }
@@ -233,7 +258,13 @@ fn reports_of_run(rt: HostRuntime) -> Result<(), Fail> {
         end 21 accepted 0 proved 0 opened 0 forged 0 collided 0 unclaimed 0\n",
         ),
     ] {
-        let run = run_files(&rt, rt.alloc(), TOPOLOGY, script, 0)?;
+        let run = run_files(
+            &rt,
+            rt.alloc(),
+            TOPOLOGY.as_bytes(),
+            script.as_bytes(),
+            &NO_FAULTS,
+        )?;
         assert_eq!(rt; run.out.written(), out.as_bytes(), "{script}");
         assert_eq!(rt; run.err.written(), b"".as_slice(), "{script}");
         assert_eq!(rt; run.status, status, "{script}");
@@ -267,24 +298,78 @@ fn runs_that_are_refused(rt: HostRuntime) -> Result<(), Fail> {
             "epic: script 2 bad-word 2\n",
         ),
         ("", "jump", 4, "epic: script 1 unknown-verb\n"),
+        ("", "orig", 4, "epic: script 1 unknown-verb\n"),
         ("", "turn 1-1 0 e", 4, "epic: script 1 bad-word 4\n"),
     ] {
-        let run = run_files(&rt, rt.alloc(), topology, script, 0)?;
+        let run = run_files(
+            &rt,
+            rt.alloc(),
+            topology.as_bytes(),
+            script.as_bytes(),
+            &NO_FAULTS,
+        )?;
         assert_eq!(rt; run.out.written(), b"".as_slice(), "{script}");
         assert_eq!(rt; run.err.written(), err.as_bytes(), "{script}");
         assert_eq!(rt; run.status, status, "{script}");
+    }
+    for (length, status, err) in [
+        (1_048_576, 0, ""),
+        (1_048_577, 3, "epic: topology too-long text 0\n"),
+    ] {
+        let topology = vec![in rt.alloc(); b'#'; length]?;
+        let run = run_files(&rt, rt.alloc(), &topology, b"", &NO_FAULTS)?;
+        assert_eq!(rt; run.err.written(), err.as_bytes());
+        assert_eq!(rt; run.status, status);
     }
     Ok(())
 }
 
 #[test]
-fn reads_of_run_that_fail(rt: HostRuntime) -> Result<(), Fail> {
-    // Two reads see a short file to its end.
-    for (fails, err) in [(1, "epic: read t\n"), (3, "epic: read s\n")] {
-        let run = run_files(&rt, rt.alloc(), "x = 1", "at 5", fails)?;
-        assert_eq!(rt; run.out.written(), b"".as_slice());
-        assert_eq!(rt; run.err.written(), err.as_bytes());
-        assert_eq!(rt; run.status, 6);
+fn calls_of_run_that_fail(rt: HostRuntime) -> Result<(), Fail> {
+    let file = |file| Faults { file, ..NO_FAULTS };
+    let write = |write| Faults { write, ..NO_FAULTS };
+    let issued =
+        "2 issue 1 1-ff00:0:110 013f6553f100000000020000000000000000 c11c948b57032617ec82805c462ebb18\n";
+    let issue = "at 1700000000000000\noriginate 1-ff00:0:110 2 63\n";
+    for (script, faults, status, out, err) in [
+        // A read of either file.
+        (issue, file("t"), 6, "", "epic: read t\n"),
+        ("jump", file("s"), 6, "", "epic: read s\n"),
+        // The lines of a step are one write, before the next step is done.
+        (issue, write(1), 7, "", "epic: write\n"),
+        (issue, write(2), 7, issued, "epic: write\n"),
+        // A failure of the errors changes no status.
+        (
+            "jump",
+            Faults {
+                tell: 1,
+                ..NO_FAULTS
+            },
+            4,
+            "",
+            "",
+        ),
+        (
+            "jump",
+            Faults {
+                tell: 2,
+                ..NO_FAULTS
+            },
+            4,
+            "",
+            "epic: script ",
+        ),
+    ] {
+        let run = run_files(
+            &rt,
+            rt.alloc(),
+            TOPOLOGY.as_bytes(),
+            script.as_bytes(),
+            &faults,
+        )?;
+        assert_eq!(rt; run.out.written(), out.as_bytes(), "{script}");
+        assert_eq!(rt; run.err.written(), err.as_bytes(), "{script}");
+        assert_eq!(rt; run.status, status, "{script}");
     }
     Ok(())
 }

@@ -1,3 +1,5 @@
+//! Tests of the command `hop`.
+
 use crate::epic;
 use epic_ports::{MemSink, MemStore};
 use std::alloc::Global;
@@ -140,6 +142,18 @@ fn files_that_are_refused(rt: HostRuntime) -> Result<(), Fail> {
         assert_eq!(rt; run.err.written(), err.as_bytes(), "{file}");
         assert_eq!(rt; run.status, 4, "{file}");
     }
+    for (length, status, err) in [
+        (1_048_576, 0, ""),
+        (1_048_577, 4, "epic: script too-long\n"),
+    ] {
+        let file = vec![in rt.alloc(); b'#'; length]?;
+        let run = run_words(&rt, rt.alloc(), &["hop", KEY, "f"], &file, NO_FAULTS)?;
+        assert_eq!(rt; run.err.written(), err.as_bytes());
+        assert_eq!(rt; run.status, status);
+    }
+    let run = run_words(&rt, rt.alloc(), &["hop", KEY, "g"], b"", NO_FAULTS)?;
+    assert_eq!(rt; run.err.written(), b"epic: read g\n".as_slice());
+    assert_eq!(rt; run.status, 6);
     Ok(())
 }
 
@@ -159,20 +173,6 @@ fn words_that_are_no_command(rt: HostRuntime) -> Result<(), Fail> {
         assert_eq!(rt; run.out.written(), b"".as_slice());
         assert_eq!(rt; run.err.written(), b"epic: words\n".as_slice());
         assert_eq!(rt; run.status, 2);
-    }
-    Ok(())
-}
-
-#[test]
-fn files_at_the_limit(rt: HostRuntime) -> Result<(), Fail> {
-    for (length, status, err) in [
-        (1_048_576, 0, ""),
-        (1_048_577, 4, "epic: script too-long\n"),
-    ] {
-        let file = vec![in rt.alloc(); b'#'; length]?;
-        let run = run_words(&rt, rt.alloc(), &["hop", KEY, "f"], &file, NO_FAULTS)?;
-        assert_eq!(rt; run.err.written(), err.as_bytes());
-        assert_eq!(rt; run.status, status);
     }
     Ok(())
 }
@@ -245,14 +245,5 @@ fn calls_that_fail(rt: HostRuntime) -> Result<(), Fail> {
         assert_eq!(rt; run.err.written(), err.as_bytes());
         assert_eq!(rt; run.status, status);
     }
-    Ok(())
-}
-
-#[test]
-fn file_that_is_absent(rt: HostRuntime) -> Result<(), Fail> {
-    let run = run_words(&rt, rt.alloc(), &["hop", KEY, "g"], b"", NO_FAULTS)?;
-    assert_eq!(rt; run.out.written(), b"".as_slice());
-    assert_eq!(rt; run.err.written(), b"epic: read g\n".as_slice());
-    assert_eq!(rt; run.status, 6);
     Ok(())
 }

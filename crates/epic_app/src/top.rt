@@ -2,16 +2,19 @@
 
 ghost use Rattle.std.specs.Prelude.{map};
 ghost use Rattle.std.specs.String.{string_bytes};
+ghost use Rattle.epic_app.specs.Acts.{world};
+ghost use Rattle.epic_app.specs.Claims.{ReportHolds};
 ghost use Rattle.epic_app.specs.End.{Performs};
-ghost use Rattle.epic_app.specs.Outcome.{Ends, ReportHolds, error_sink, world};
+ghost use Rattle.epic_app.specs.Limits.{KeepsLimits};
+ghost use Rattle.epic_app.specs.Outcome.{Ends, error_sink};
 ghost use Rattle.epic_app.specs.Request.{request_of};
 
 use crate::end::{End, tell};
 use crate::hop::hop;
+use crate::laws::runs_hold;
 use crate::run::run;
 use crate::words::{hop_words, run_words};
 use epic_ports::{Sink, Store};
-use epic_world::runs_are_sound;
 use std::alloc::Global;
 
 /// Does what the words ask for, but for what is told to the errors.
@@ -50,8 +53,9 @@ pub fn epic<S: Store, O: Sink, E: Sink>(
     out: &mut O,
     err: &mut E,
 ) -> u8
-    // The report of `run` is that of the script's commands over the topology, and each verdict in it is true
-    // over the ledger before its step, and Proved exactly where the hop's provenance stands there. In the
+    // The report of `run` is that of the script's commands over the topology. Each step goes on from a state
+    // whose ledger is lawful and kept and whose segments are whole, and so does the end of the run. Each verdict
+    // is true over the ledger before its step, and Proved exactly where the hop's provenance stands there. In the
     // report of `hop` each `accept proved K` names an earlier issue of that body, each `accept forged` is a
     // right field of a body that no earlier line issued, and each refused field is wrong.
     ensures report_holds { ReportHolds (map string_bytes words.now)
@@ -70,9 +74,12 @@ pub fn epic<S: Store, O: Sink, E: Sink>(
         (error_sink (E.written err.old) (E.faults err.old))
         (error_sink (E.written err.new) (E.faults err.new))
         result }
+
+    // The commands of a script, and moments, are within these limits.
+    ensures limits { KeepsLimits }
 {
-    // What the report of a run claims rests on these laws.
-    runs_are_sound();
+    // What the report of a run claims rests on this law.
+    runs_hold();
     let end = perform(alloc, words, store, out);
     tell(err, &end);
     end.status()

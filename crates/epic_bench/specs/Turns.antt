@@ -6,6 +6,7 @@ use Rattle.epic_num.specs.BigEndian.{u64_bytes}
 use Rattle.epic_num.specs.declared.turn.Turn.{Turn}
 use Rattle.epic_num.specs.declared.turn.Turn.TheVariants.{Forward, Deliver, Refused}
 use Rattle.epic_topo.specs.Network.{Network}
+use Rattle.epic_layout.specs.declared.wire.TheConstants.{CURRENT_AT}
 use Rattle.epic_router.specs.Turns.{bytes_after, turn_of}
 use Rattle.epic_bench.specs.declared.way.Step.{Step}
 use Rattle.epic_bench.specs.declared.way.TheConstants.{NOW, STEPS}
@@ -37,7 +38,7 @@ passed t packet = fold (turned t) (travel packet 0) STEPS
 -- after one more way down the chain, from the first hop
 unfoldable pub sent_again : Network → Travel → Travel
 sent_again t w =
-    let after = passed t (slice_set w.packet 7 0) in
+    let after = passed t (slice_set w.packet CURRENT_AT 0) in
     travel after.packet (w.accepted + after.accepted)
 
 unfoldable pub sent : Network → List ℕ → ℕ → Travel

@@ -1,3 +1,5 @@
+//! The works of the benchmark in tables.
+
 use crate::top::{End, bench};
 use epic_ports::MemSink;
 use std::alloc::Global;

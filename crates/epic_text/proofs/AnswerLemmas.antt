@@ -5,7 +5,8 @@ use Rattle.epic_num.specs.declared.answer.Answer.TheVariants as answer
 use Rattle.epic_num.specs.declared.hop.HopName.{HopName}
 use Rattle.epic_topo.specs.Network.{Network}
 use Rattle.epic_text.specs.Line.{step_line, bytes_text}
-use Rattle.epic_text.specs.Report.{answer_text, issue_words, passed_text, no_name, Shows}
+use Rattle.epic_text.specs.Report.{answer_text, issue_words, passed_text, Shows}
+use Rattle.epic_num.specs.Chains.{no_name}
 
 pub answer_shown : (t : Network) (names : ℕ → HopName) (emissions : ℕ → List ℕ) (issued : Option HopName) (came emitted : List ℕ) (step : ℕ) (a : Answer)
     → Shows names emissions issued emitted a

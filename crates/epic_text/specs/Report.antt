@@ -17,13 +17,13 @@ use Rattle.epic_num.specs.declared.turn.Turn.{Turn}
 use Rattle.epic_num.specs.declared.turn.Turn.TheVariants as turn
 use Rattle.epic_num.specs.declared.verdict.Verdict.{Verdict}
 use Rattle.epic_num.specs.Bodies.{body_bytes}
-use Rattle.epic_num.specs.Chains.{Issue, name_of}
+use Rattle.epic_num.specs.Chains.{Issue, name_of, no_name}
 use Rattle.epic_num.specs.Levels.{is_first_byte}
 use Rattle.epic_num.specs.Names.{as_text}
 use Rattle.epic_layout.specs.Contents.{Contents}
 use Rattle.epic_layout.specs.Layout.{fault, parse}
 use Rattle.epic_topo.specs.Network.{Network, has}
-use Rattle.epic_keys.specs.Tags.{sigma}
+use Rattle.epic_fields.specs.Tags.{sigma}
 use Rattle.epic_text.specs.Line.{step_line, bytes_text}
 use Rattle.epic_text.specs.Refusals.{turn_words, arrival_words, refusal_words}
 use Rattle.epic_text.specs.VerdictText.{verdict_words, IsTellable}
@@ -126,14 +126,6 @@ answer_text t names emissions came step answer.Revealed = step_line step (codes 
 answer_text t names emissions came step (answer.Rolled generation) =
     step_line step (codes "rolled" ∷ decimal generation ∷ [])
 answer_text t names emissions came step (answer.Refused refusal) = step_line step (refusal_words refusal)
-
--- what stands in the place of the name of an issue that isn't there
-abbrev pub no_name : HopName
-no_name = record {
-  asn = record { 0 = 0 };
-  generation = 0;
-  body = record { pos = 0; exp = 0; ts_path = 0; inn = 0; out = 0; link = [] };
-}
 
 -- the name of the hop that was issued under a number
 unfoldable pub issued_name : List Issue → ℕ → HopName

@@ -13,7 +13,7 @@ use Rattle.epic_num.specs.Names.{as_text}
 use Rattle.epic_layout.specs.Contents.{Contents, hop_count}
 use Rattle.epic_topo.specs.Network.{Network, has}
 use Rattle.epic_keys.specs.Keys.{owner}
-use Rattle.epic_keys.specs.Tags.{sigma, link}
+use Rattle.epic_fields.specs.Tags.{sigma, link}
 use Rattle.epic_audit.specs.ForgedText.{words_text, forged_words, has_form, fits_level}
 
 -- a destination names the send alone, a hop of level 0 or 1 its issue alone, and other hops both

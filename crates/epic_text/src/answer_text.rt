@@ -7,12 +7,13 @@ ghost use Rattle.epic_audit.specs.ForgedText.{words_text};
 ghost use Rattle.epic_text.specs.Line.{Prints, bytes_text, step_line};
 ghost use Rattle.epic_text.specs.Refusals as refusals;
 ghost use Rattle.epic_text.specs.Report as spec;
-ghost use Rattle.epic_text.specs.Report.{IsToldAnswer, no_name};
+ghost use Rattle.epic_text.specs.Report.{IsToldAnswer};
+ghost use Rattle.epic_num.specs.Chains.{no_name};
 
 use crate::line::{allocated, append, bytes_text, print_line};
 use crate::passed_text::print_passed;
 use crate::refusal_words::refusal_words;
-use crate::verdict_text::sigma;
+use epic_fields::sigma;
 use epic_num::{Answer, HopName, OutOfMemory, PathList, PathRef, Refusal};
 use epic_topo::Topology;
 use std::alloc::{AllocError, Global};

@@ -14,6 +14,7 @@ ghost use Rattle.epic_text.specs.VerdictText.{IsTellable};
 use crate::line::{allocated, append, bytes_text, print_line};
 use crate::refusal_words::{arrival_words, turn_words};
 use crate::verdict_text::{print_dest, print_hop};
+use epic_layout::shape_of;
 use epic_num::{Arrival, OutOfMemory, PassResult, Passed, Turn, Verdict};
 use epic_topo::Topology;
 use epic_view::PacketRef;
@@ -147,9 +148,7 @@ fn print_verdicts(
     if verdicts.is_empty() {
         return Ok(());
     }
-    let Ok(packet) = PacketRef::look(came) else {
-        unreachable!()
-    };
+    let packet = PacketRef::of(came, shape_of(came));
     match outcome {
         PassResult::Turned(_) => print_hops(to, step, topo, &packet, verdicts),
         PassResult::Arrived(_) => print_dests(to, step, topo, &packet, verdicts),

@@ -1,3 +1,5 @@
+//! Printed text in tables.
+
 use super::*;
 use arrayvec::ArrayVec;
 use epic_num::{

@@ -4,7 +4,6 @@ ghost use Rattle.std.specs.Prelude.{◌≡◌, ◌∷◌, decimal, IfOk, IsTrue}
 ghost use Rattle.std.specs.String.{string_bytes};
 ghost use Rattle.hex.specs.Hex.{encode_lower};
 ghost use Rattle.epic_topo.specs.Network.{has};
-ghost use Rattle.epic_keys.specs.Tags as tags;
 ghost use Rattle.epic_audit.specs.ForgedText.{words_text};
 ghost use Rattle.epic_text.specs.Line.{Prints};
 ghost use Rattle.epic_text.specs.Report.{dest_line, hop_line};
@@ -13,43 +12,11 @@ ghost use Rattle.epic_text.specs.VerdictText.{IsTellable};
 
 use crate::line::{allocated, append, print_line};
 use epic_audit::forged_text;
-use epic_fields::{authenticator, link_tag};
-use epic_keys::derive;
-use epic_num::{Collision, HopName, KeyName, OutOfMemory, Part, Verdict};
+use epic_fields::{link, sigma};
+use epic_num::{Collision, HopName, OutOfMemory, Part, Verdict};
 use epic_topo::Topology;
 use epic_view::PacketRef;
 use std::alloc::{AllocError, Global};
-
-/// The forwarding key of a hop.
-#[tactic(auto, unfolding(epic_keys::specs::Tags::hop_key, epic_keys::specs::Keys::owner))]
-fn hop_key(topo: &Topology, name: &HopName) -> [u8; 16]
-    requires { IsTrue (has topo.now name.now.asn) }
-    ensures { result ≡ tags.hop_key topo.now name.now }
-{
-    let key = KeyName::Fwd {
-        a: name.asn,
-        g: name.generation,
-    };
-    derive(topo, &key)
-}
-
-/// The authenticator of a hop whose AS is in the topology.
-#[tactic(auto, unfolding(epic_keys::specs::Tags::sigma, epic_fields::specs::Formulas::authenticator))]
-pub fn sigma(topo: &Topology, name: &HopName) -> [u8; 16]
-    requires { IsTrue (has topo.now name.now.asn) }
-    ensures { result ≡ tags.sigma topo.now name.now }
-{
-    authenticator(&hop_key(topo, name), &name.body)
-}
-
-/// The link tag of a hop whose AS is in the topology.
-#[tactic(auto, unfolding(epic_keys::specs::Tags::link, epic_fields::specs::Formulas::link_tag))]
-fn link(topo: &Topology, name: &HopName) -> [u8; 8]
-    requires { IsTrue (has topo.now name.now.asn) }
-    ensures { result ≡ tags.link topo.now name.now }
-{
-    link_tag(&hop_key(topo, name), &name.body)
-}
 
 /// What is proved of an acceptance.
 fn proved_words(alloc: Global, issue: u32, send: u32) -> Result<String, AllocError>

@@ -1,9 +1,8 @@
 -- What steps are to answer.
-use Rattle.std.proofs.Common.{◌≡◌, ℕ, ◌+◌, ◌≤◌, ◌<◌, true, false, ◌||◌, List, map, length, refl, sym, ◌∙◌, ap, subst}
+use Rattle.std.proofs.Common.{◌≡◌, ℕ, ◌+◌, ◌≤◌, ◌<◌, true, false, ◌||◌, List, length, refl, sym, ◌∙◌, ap, subst}
 use Rattle.std.specs.Prelude.{Result, Ok, Err, Some, Option, IsSome, if◌then◌else◌}
 use Rattle.std.proofs.lemmas.Bool.{lt-ltb, le-ltb}
-use Rattle.std.proofs.lemmas.Option.{same_Some}
-use Rattle.epic_num.specs.Chains.{Issue, issue_at, ended_issues}
+use Rattle.epic_num.specs.Chains.{Issue}
 use Rattle.epic_num.specs.Same.{same_as}
 use Rattle.epic_num.specs.declared.name.AsId.{AsId}
 use Rattle.epic_num.specs.declared.beacon_error.BeaconError.{BeaconError}
@@ -11,26 +10,28 @@ use Rattle.epic_num.specs.declared.answer.Answer.TheVariants.{Issued, Fetched, K
 use Rattle.epic_num.specs.declared.answer.Refusal.TheVariants.{Beacon as BeaconRefusal, TooManyPaths}
 use Rattle.epic_num.specs.declared.path_ref.PathRef.{PathRef}
 use Rattle.epic_topo.specs.Network.{Network, has}
-use Rattle.epic_keys.specs.Issues.{IssuesKept}
+use Rattle.epic_fields.specs.Issues.{IssuesKept}
 use Rattle.epic_keys.specs.Fetches.{Fetch, FetchSet, is_known}
 use Rattle.epic_beacon.specs.declared.beacon.Beacon.{Beacon}
 use Rattle.epic_beacon.specs.Issuing.{Issues, originated, extended}
 use Rattle.epic_beacon.specs.Kinds.{KindsKept}
+use Rattle.epic_beacon.specs.Segments.{segments}
 use Rattle.epic_beacon.specs.Store.{Store, issue_of, issues_of}
+use Rattle.epic_beacon.specs.Told.{beacons_in}
+use Rattle.epic_beacon.proofs.Told.{issues_in_beacons, originated_told, extended_told}
 use Rattle.epic_path.specs.Routes.{all_lawful}
 use Rattle.epic_ledger.specs.History.{History}
 use Rattle.epic_ledger.specs.Facts.{facts_of, issues_in}
-use Rattle.epic_ledger.specs.Lawful.{FitsIssue, IsLawful}
+use Rattle.epic_ledger.specs.Lawful.{IsLawful}
 use Rattle.epic_ledger.specs.declared.event.Event.TheVariants as event
 use Rattle.epic_audit.specs.Events.{EventsKeep}
-use Rattle.epic_world.specs.State.{State, store_in, is_known_in, generation_in, beacons_in, segment_of, segments_in}
-use Rattle.epic_world.specs.Stepped.{Steps, recorded, answered, refused, with_event}
+use Rattle.epic_ledger.specs.OneMore.{with_event}
+use Rattle.epic_world.specs.State.{State, store_in, is_known_in}
+use Rattle.epic_world.specs.Stepped.{Steps, recorded, answered, refused}
 use Rattle.epic_world.specs.Next.{issued, next_originate, next_extend, next_fetch, next_paths, found}
 use Rattle.epic_world.specs.Refining.{Refines}
-use Rattle.epic_world.proofs.BeaconsIn.{issues_in_beacons}
-use Rattle.epic_world.proofs.Joined.{IsIssued, issued_by, is_kept, originated_joins, extended_joins}
+use Rattle.epic_world.proofs.Issued.{WasIssued, was_issued, is_kept, issue_fits}
 use Rattle.epic_world.proofs.Refined.{issued as issue_refines}
-use Rattle.epic_world.proofs.SameStore.{same_originated, same_extended}
 
 -- ---- what the objects tell
 
@@ -40,49 +41,52 @@ module _ (t : Network) (store : Store) (fetches : FetchSet) (moment n : ℕ) (h 
   unfolding is_known is_known_in
   same_known f = ap (λ b. same_as f.owner f.source || b) (r.fetched f)
 
+  beacons_are : store.beacons ≡ beacons_in t (issues_in h.events)
+  unfolding store_in
+  beacons_are = ap (λ (s : Store). s.beacons) r.stored
+
   pub issues_are_kept : IssuesKept t (issues_of store.beacons)
   unfolding facts_of
-  issues_are_kept = subst (IssuesKept t) (sym (ap issues_of r.beacons ∙ issues_in_beacons t (issues_in h.events))) r.kept.issues
+  issues_are_kept = subst (IssuesKept t) (sym (ap issues_of beacons_are ∙ issues_in_beacons t (issues_in h.events))) r.kept.issues
 
   -- a hop is issued by the ledger as by the store
   pub originates : (a : AsId) (out exp : ℕ) → originated t store a out exp moment ≡ originated t (store_in t h.events) a out exp moment
-  unfolding store_in generation_in
-  originates a out exp = same_originated t store (store_in t h.events) a out exp moment r.beacons r.generations
+  originates a out exp = ap (λ s. originated t s a out exp moment) r.stored
 
   pub extends : (parent out exp : ℕ) → extended t store parent out exp moment ≡ extended t (store_in t h.events) parent out exp moment
-  unfolding store_in generation_in
-  extends parent out exp = same_extended t store (store_in t h.events) parent out exp moment r.beacons r.generations
+  extends parent out exp = ap (λ s. extended t s parent out exp moment) r.stored
 
   pub originated_is : (new : Store) (a : AsId) (out exp number : ℕ) → Issues store new (originated t store a out exp moment) (Ok number)
-      → IsIssued t store new (issues_in h.events) (originated t store a out exp moment) number
+      → WasIssued t store new (issues_in h.events) (originated t store a out exp moment) number
   originated_is new a out exp number i =
-      issued_by t store new (issues_in h.events) (originated t store a out exp moment) number r.beacons i (originated_joins t store a out exp moment)
+      was_issued t store new (issues_in h.events) (originated t store a out exp moment) number beacons_are i
+      (λ b is. originated_told t store a out exp moment b (issues_in h.events) beacons_are is)
 
   pub extended_is : (new : Store) (parent out exp number : ℕ) → Issues store new (extended t store parent out exp moment) (Ok number)
-      → IsIssued t store new (issues_in h.events) (extended t store parent out exp moment) number
+      → WasIssued t store new (issues_in h.events) (extended t store parent out exp moment) number
   extended_is new parent out exp number i =
-      issued_by t store new (issues_in h.events) (extended t store parent out exp moment) number r.beacons i (extended_joins t store parent out exp moment)
+      was_issued t store new (issues_in h.events) (extended t store parent out exp moment) number beacons_are i
+      (λ b is. extended_told t store parent out exp moment b (issues_in h.events) beacons_are is)
 
   -- the ledger with the issue
-  pub issue_recorded : (new : Store) (told : Result Beacon BeaconError) (number : ℕ) → EventsKeep → IsLawful h
-      → (q : IsIssued t store new (issues_in h.events) told number) → IssuesKept t (issues_of new.beacons) → KindsKept t new.beacons
+  pub issue_recorded : (new : Store) (answer : Result Beacon BeaconError) (number : ℕ) → EventsKeep → IsLawful h
+      → (q : WasIssued t store new (issues_in h.events) answer number) → IssuesKept t (issues_of new.beacons) → KindsKept t new.beacons
       → Refines t new fetches moment (n + 1) (with_event h (event.Issue (n + 1) number q.beacon.name q.beacon.parent))
-  issue_recorded new told number keep lawful q kept kinds =
+  issue_recorded new answer number keep lawful q kept kinds =
+      let new_kept = is_kept t store new (issues_in h.events) answer number q kept in
       issue_refines t store new fetches moment n number h (issue_of q.beacon) r
       (keep t h (event.Issue (n + 1) number q.beacon.name q.beacon.parent) lawful r.kept
-      (record { next = q.number_is; earlier = q.earlier }) (is_kept t store new (issues_in h.events) told number q kept))
-      q.beacons q.generations kinds
+      (issue_fits t (issues_in h.events) number (issue_of q.beacon) q.number_is new_kept) new_kept)
+      q.new_is kinds
+
+  -- the paths are over the segments of the ledger's issues
+  pub segments_are : segments store.beacons ≡ segments (beacons_in t (issues_in h.events))
+  segments_are = ap segments beacons_are
 
 -- ---- issues
 
 pub some_there : {A : Type 0} (o : Option A) (x : A) → o ≡ Some x → IsSome o
 some_there o x e = subst (λ (p : Option _). IsSome p) (sym e) refl
-
-pub issue_fits : (t : Network) (old new : Store) (issues : List Issue) (told : Result Beacon BeaconError) (number : ℕ) (i : Issue)
-    → IsIssued t old new issues told number → issue_at (issues_of new.beacons) number ≡ Some i → FitsIssue issues number i.parent
-issue_fits t old new issues told number i q there =
-    let same : issue_of q.beacon ≡ i = same_Some (issue_of q.beacon) i (sym q.there ∙ there) in
-    subst (λ (j : Issue). FitsIssue issues number j.parent) same (record { next = q.number_is; earlier = q.earlier })
 
 -- what an issue answers
 pub issue_answers : (s : State) (told : Result Beacon BeaconError) (b : Beacon) (number : ℕ) (h : History) → told ≡ Ok b
@@ -130,15 +134,8 @@ known_fetch t s source owner epoch h k known = rw (h, k, known) refl
 
 -- ---- paths
 
-pub segments_are : (t : Network) (beacons : List Beacon) (issues : List Issue) → beacons ≡ beacons_in t issues
-    → map (segment_of beacons) (ended_issues (issues_of beacons)) ≡ segments_in t issues
-unfolding segments_in
-segments_are t beacons issues e =
-    ap (λ bs. map (segment_of bs) (ended_issues (issues_of bs))) e
-    ∙ ap (λ is. map (segment_of (beacons_in t issues)) (ended_issues is)) (issues_in_beacons t issues)
-
 pub known_paths : (t : Network) (s : State) (from to : AsId) → has t from ≡ true → has t to ≡ true
-    → next_paths t s from to ≡ found s (all_lawful (segments_in t (issues_in s.history.events)) from to)
+    → next_paths t s from to ≡ found s (all_lawful (segments (beacons_in t (issues_in s.history.events))) from to)
 unfolding next_paths
 known_paths t s from to h k = rw (h, k) refl
 

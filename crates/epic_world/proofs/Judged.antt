@@ -21,12 +21,14 @@ use Rattle.epic_router.specs.Turns.{turn_of, bytes_after}
 use Rattle.epic_ledger.specs.History.{Emission, emitted, step_of}
 use Rattle.epic_ledger.specs.Facts.{Facts, facts_of}
 use Rattle.epic_ledger.specs.Lawful.{IsEmission}
+use Rattle.epic_ledger.proofs.Growing.{spelled_in}
 use Rattle.epic_ledger.specs.declared.event.Event.{Event}
 use Rattle.epic_ledger.specs.declared.event.Event.TheVariants as event
-use Rattle.epic_audit.specs.Events.{EventsKeep, EventsAreLawful, EmissionsAddNothing, EmissionsAreLawful, LawfulPackets, with_emission}
+use Rattle.epic_audit.specs.Events.{EventsKeep, EventsAreLawful, EmissionsAddNothing, EmissionsAreLawful, LawfulPackets}
+use Rattle.epic_ledger.specs.OneMore.{with_emission}
 use Rattle.epic_audit.specs.Laws.{HopVerdictsHold}
 use Rattle.epic_audit.specs.Verdicts.{hop_verdict}
-use Rattle.epic_world.specs.State.{State, generation_in}
+use Rattle.epic_world.specs.State.{State, rolls}
 use Rattle.epic_world.specs.Stepped.{Stepped, refused}
 use Rattle.epic_world.specs.Next.{next_turn}
 use Rattle.epic_world.specs.Turning.{most_emitted, accepted_at, due_behind, due_of, turned_by, turned_at}
@@ -89,7 +91,7 @@ module _ (keep : EventsKeep) (still : EventsAreLawful) (same : EmissionsAddNothi
     accepted_right t s a iface bytes turn due generation h are q judged = record {
       state =
           passed_sound t s a generation due (parse bytes) (bytes_after turn bytes) h
-          (record { bytes = q.still_bytes are; faultless = q.left_faultless }) q.passable;
+          (spelled_in (record { place = due; bytes = bytes_after turn bytes }) (q.still_bytes are) q.left_faultless) q.passable;
       answer = judged;
     }
 
@@ -128,7 +130,7 @@ module _ (keep : EventsKeep) (still : EventsAreLawful) (same : EmissionsAddNothi
     turned_at_right : (t : Network) (s : State) (a : AsId) (iface : ℕ) (bytes : List ℕ) → TurnsAreRight → IsSound t s → IsBytes bytes → has t a ≡ true
         → IsRight t s a bytes (turned_at t s a iface bytes)
     turned_at_right t s a iface bytes rights h are known =
-        let generation = generation_in s.history.events a in
+        let generation = rolls s.history.events a in
         elim (cases_lt most_emitted (emitted s.history.emissions + length bytes)) [
           | inl full ↦ subst (IsRight t s a bytes) (sym (full_at t s a iface bytes full)) (record { state = counted t s s.moment h; answer = refl })
           | inr room ↦

@@ -1,10 +1,8 @@
 mod Answering
-mod BeaconsIn
-mod Joined
+mod Issued
 mod Judged
 mod Passages
 mod Refined
-mod SameStore
 mod Segmented
 mod Soundness
 mod StepLaws

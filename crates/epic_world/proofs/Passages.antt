@@ -1,6 +1,6 @@
 -- A ledger in which a packet was passed on.
-use Rattle.std.proofs.Common.{◌≡◌, ℕ, ◌+◌, ◌≤◌, ◌<◌, Bool, true, List, [], ◌∷◌, ◌++◌, length, refl, sym, ◌∙◌, ap, subst, arith, add-one}
-use Rattle.std.specs.Prelude.{Option, Some, IsSome, slice_get, bytes_eq}
+use Rattle.std.proofs.Common.{◌≡◌, ℕ, ◌+◌, ◌≤◌, ◌<◌, Bool, true, List, [], ◌∷◌, ◌++◌, length, refl, sym, ◌∙◌, ap, subst, arith}
+use Rattle.std.specs.Prelude.{bytes_eq}
 use Rattle.std.specs.List.{list_any}
 use Rattle.std.specs.Option.{option_map_or}
 use Rattle.std.proofs.lemmas.List.{length_push}
@@ -9,46 +9,34 @@ use Rattle.epic_num.specs.declared.name.AsId.{AsId}
 use Rattle.epic_num.specs.declared.passed.Place.{Place}
 use Rattle.epic_topo.specs.Network.{Network}
 use Rattle.epic_keys.specs.Fetches.{FetchSet, same_fetch}
-use Rattle.epic_keys.specs.Tags.{link}
+use Rattle.epic_fields.specs.Tags.{link}
 use Rattle.epic_layout.specs.Contents.{Contents, hop_count}
 use Rattle.epic_layout.specs.Layout.{parse}
 use Rattle.epic_layout.specs.Route.{Route, place, is_first, is_last, ingress, egress, successor, hop, body}
-use Rattle.epic_fields.specs.HopChecks.{hop_name, has_link}
+use Rattle.epic_fields.specs.HopChecks.{hop_name, carries_link, has_link}
 use Rattle.epic_beacon.specs.Store.{Store}
-use Rattle.epic_ledger.specs.History.{History, Emission, emission_at, emitted, step_of}
+use Rattle.epic_ledger.specs.History.{History, Emission, emitted, step_of}
 use Rattle.epic_ledger.specs.Facts.{Pass, packet_at, facts_of, as_issue, pass_name}
 use Rattle.epic_ledger.specs.Lawful.{FitsPass, IsEmission, IsLawful}
 use Rattle.epic_ledger.specs.declared.event.Event.{Event}
 use Rattle.epic_ledger.specs.declared.event.Event.TheVariants as event
-use Rattle.epic_ledger.proofs.Growing.{emission_at-suc}
-use Rattle.epic_audit.specs.Events.{EventsKeep, EmissionsAddNothing, EmissionsAreLawful, with_emission}
+use Rattle.epic_audit.specs.Events.{EventsKeep, EmissionsAddNothing, EmissionsAreLawful}
+use Rattle.epic_ledger.specs.OneMore.{with_emission}
 use Rattle.epic_audit.specs.Kept.{IsKeptPass, Kept}
-use Rattle.epic_world.specs.State.{as_roll, as_fetch, beacons_in}
+use Rattle.epic_audit.proofs.Recording.{newest, newest_there, newest_packet}
+use Rattle.epic_world.specs.State.{is_roll, as_fetch}
 use Rattle.epic_world.specs.Refining.{Refines}
 use Rattle.epic_world.specs.Turning.{most_emitted}
 use Rattle.epic_world.specs.Passing.{IsPassable, with_pass}
-use Rattle.epic_world.proofs.Refined.{none_more, later, last_more, same_generation}
+use Rattle.epic_world.proofs.Refined.{none_more, later, last_more, same_store}
 
-seam : (es : List Emission) (x : Emission) → slice_get (es ++ x ∷ []) (length es) ≡ Some x
-seam [] x = refl
-seam (e ∷ es) x = seam es x
-
--- ---- the last emission
-
-emission_next : (es : List Emission) (x : Emission) → emission_at (es ++ x ∷ []) (length es + 1) ≡ Some x
-emission_next es x = rw add-one (emission_at-suc (es ++ x ∷ []) (length es) ∙ seam es x)
-
-packet_next : (es : List Emission) (x : Emission) → packet_at (es ++ x ∷ []) (length es + 1) ≡ parse x.bytes
-unfolding packet_at
-packet_next es x = ap (λ (o : Option Emission). parse (option_map_or (λ e. e.bytes) o [])) (emission_next es x)
+-- ---- the pass
 
 pub pass_fits : (es : List Emission) (x : Emission) (j : ℕ) → j < hop_count (parse x.bytes) → FitsPass (es ++ x ∷ []) (length es + 1) j
 pass_fits es x j within = record {
-  there = subst (λ (o : Option Emission). IsSome o) (sym (emission_next es x)) refl;
-  within = subst (λ (p : Contents). j < hop_count p) (sym (packet_next es x)) within;
+  there = newest_there es x;
+  within = subst (λ (p : Contents). j < hop_count p) (sym (newest_packet es x)) within;
 }
-
--- ---- the pass
 
 -- whether the hop of a route that has the name's AS and generation is linked to the next
 linked_on : Network → AsId → ℕ → ℕ → Route → Bool
@@ -56,11 +44,11 @@ linked_on t a generation j r =
     option_map_or (λ s. bytes_eq (hop r s).link (link t (record { asn = a; generation = generation; body = body r j }))) (successor (place r.segments j) j) true
 
 linked_as : (t : Network) (a : AsId) (generation : ℕ) (p : Contents) (j : ℕ) → has_link t (hop_name a generation p j) p j ≡ linked_on t a generation j p.route
-unfolding has_link hop_name linked_on
+unfolding has_link carries_link hop_name linked_on
 linked_as t a generation p j = refl
 
 passed_as : (t : Network) (w : Pass) → has_link t (pass_name w) w.packet w.hop ≡ linked_on t w.asn w.generation w.hop w.packet.route
-unfolding has_link pass_name linked_on
+unfolding has_link carries_link pass_name linked_on
 passed_as t w = refl
 
 pub pass_kept : (t : Network) (a : AsId) (generation emission : ℕ) (p left q : Contents) → IsPassable t a generation p left → q ≡ left
@@ -92,7 +80,7 @@ ledger_keeps t h a generation step due p bytes keep same lawful_still lawful kep
     keep t with (event.Pass step a p.current generation number) (lawful_still h x lawful spelled)
     (subst (Kept t) (sym (same h x lawful)) kept)
     (pass_fits h.emissions x p.current there)
-    (pass_kept t a generation number p (parse bytes) (packet_at (h.emissions ++ x ∷ []) number) passable (packet_next h.emissions x))
+    (pass_kept t a generation number p (parse bytes) (packet_at (h.emissions ++ x ∷ []) number) passable (newest_packet h.emissions x))
 
 emitted_more : (es : List Emission) (x : Emission) → emitted (es ++ x ∷ []) ≡ emitted es + length x.bytes
 unfolding emitted
@@ -105,15 +93,14 @@ pub passed_on : (t : Network) (store : Store) (fetches : FetchSet) (moment n : �
     → Refines t store fetches moment n h → Kept t (facts_of (with_pass h (n + 1) a j generation due bytes))
     → emitted h.emissions + length bytes ≤ most_emitted
     → Refines t store fetches moment (n + 1) (with_pass h (n + 1) a j generation due bytes)
-unfolding as_issue as_fetch as_roll step_of
+unfolding as_issue as_fetch is_roll step_of
 passed_on t store fetches moment n h a j generation due bytes r kept few =
     let x : Emission = record { place = due; bytes = bytes } in
     let e : Event = event.Pass (n + 1) a j generation (length h.emissions + 1) in
     record {
       kept = kept;
-      beacons = r.beacons ∙ ap (beacons_in t) (sym (none_more as_issue h.events e refl));
+      stored = r.stored ∙ same_store t h.events e refl (λ b. refl);
       kinds = r.kinds;
-      generations = λ b. r.generations b ∙ sym (same_generation h.events e b refl);
       fetched = λ f. r.fetched f ∙ ap (list_any (same_fetch f)) (sym (none_more as_fetch h.events e refl));
       moment_fits = r.moment_fits;
       last = last_more h.events e (n + 1) (later h.events n (n + 1) r.last (omega arith)) (omega arith);

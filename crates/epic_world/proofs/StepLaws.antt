@@ -14,13 +14,15 @@ use Rattle.epic_topo.specs.Network.{Network, has}
 use Rattle.epic_keys.specs.Fetches.{Fetch}
 use Rattle.epic_beacon.specs.declared.beacon.Beacon.{Beacon}
 use Rattle.epic_beacon.specs.Issuing.{originated, extended}
+use Rattle.epic_beacon.specs.Segments.{segments}
+use Rattle.epic_beacon.specs.Told.{beacons_in}
 use Rattle.epic_path.specs.Routes.{all_lawful}
 use Rattle.epic_router.specs.Accepted.{TurnsAreRight}
 use Rattle.epic_ledger.specs.Facts.{facts_of, issues_in}
 use Rattle.epic_ledger.specs.declared.event.Event.TheVariants as event
 use Rattle.epic_audit.specs.Events.{EventsKeep, EventsAreLawful, EmissionsAddNothing, EmissionsAreLawful, LawfulPackets}
 use Rattle.epic_audit.specs.Laws.{HopVerdictsHold}
-use Rattle.epic_world.specs.State.{State, store_in, is_known_in, segments_in}
+use Rattle.epic_world.specs.State.{State, store_in, is_known_in}
 use Rattle.epic_world.specs.Stepped.{answered, refused, recorded}
 use Rattle.epic_world.specs.Next.{next, issued, next_at, next_originate, next_extend, next_fetch, next_paths, found}
 use Rattle.epic_world.specs.Run.{done_by, run_from, state_after}
@@ -69,7 +71,7 @@ fetch_quiet t s source owner epoch = by (has t source) (has t owner) (is_known_i
 
 paths_quiet : (t : Network) (s : State) (from to : AsId) → HasNoVerdict (next_paths t s from to).answer
 unfolding next_paths
-paths_quiet t s from to = by (has t from) (has t to) (all_lawful (segments_in t (issues_in s.history.events)) from to)
+paths_quiet t s from to = by (has t from) (has t to) (all_lawful (segments (beacons_in t (issues_in s.history.events))) from to)
   where
     found_quiet : (b : Bool) (paths : List PathRef) → HasNoVerdict (if b then refused s TooManyPaths else answered s (Paths paths)).answer
     found_quiet true paths = tt
@@ -88,7 +90,7 @@ module _ (keep : EventsKeep) (still : EventsAreLawful) (same : EmissionsAddNothi
   pub steps_are_sound : StepsAreSound
   unfolding next CarriesBytes
   steps_are_sound t s (command.At moment) lawful bytes h = at_sound t s moment h
-  steps_are_sound t s (command.Originate a out exp) lawful bytes h = originate_sound keep still t s a out exp h
+  steps_are_sound t s (command.Originate a out exp) lawful bytes h = originate_sound keep still t s a out exp (back t lawful) h
   steps_are_sound t s (command.Extend parent out exp) lawful bytes h = extend_sound keep still t s parent out exp (back t lawful) h
   steps_are_sound t s (command.Fetch source owner epoch) lawful bytes h = fetch_sound keep still t s source owner epoch h
   steps_are_sound t s (command.Paths from to) lawful bytes h = paths_sound t s from to h

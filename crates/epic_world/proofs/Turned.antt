@@ -25,7 +25,7 @@ use Rattle.epic_fields.specs.HopChecks.{hop_name}
 use Rattle.epic_ledger.specs.Facts.{facts_of}
 use Rattle.epic_ledger.specs.History.{History, emitted}
 use Rattle.epic_audit.specs.Verdicts.{hop_verdict}
-use Rattle.epic_world.specs.State.{State, generation_in}
+use Rattle.epic_world.specs.State.{State, rolls}
 use Rattle.epic_world.specs.Stepped.{Steps, answered}
 use Rattle.epic_world.specs.Next.{next_turn}
 use Rattle.epic_world.specs.Turning.{most_emitted, passed, accepted_at, due_of, turned_by, turned_at}
@@ -149,7 +149,7 @@ accepts t s a iface bytes turn due generation answer h e f =
     (e, λ i. record { moment = s.moment; steps = s.steps + 1; history = f i })
 
 pub room_at : (t : Network) (s : State) (a : AsId) (iface : ℕ) (bytes : List ℕ) → emitted s.history.emissions + length bytes ≤ most_emitted
-    → turned_at t s a iface bytes ≡ turned_by t s a iface bytes (turn_of t a (generation_in s.history.events a ∷ []) iface s.moment bytes)
+    → turned_at t s a iface bytes ≡ turned_by t s a iface bytes (turn_of t a (rolls s.history.events a ∷ []) iface s.moment bytes)
 unfolding turned_at
 room_at t s a iface bytes room = rw (le-ltb most_emitted (emitted s.history.emissions + length bytes) room) refl
 
@@ -163,7 +163,7 @@ unfolding next_turn
 known_turn t s a iface bytes known = rw known refl
 
 pub room_turn : (t : Network) (s : State) (a : AsId) (iface : ℕ) (bytes : List ℕ) → has t a ≡ true → emitted s.history.emissions + length bytes ≤ most_emitted
-    → next_turn t s a iface bytes ≡ turned_by t s a iface bytes (turn_of t a (generation_in s.history.events a ∷ []) iface s.moment bytes)
+    → next_turn t s a iface bytes ≡ turned_by t s a iface bytes (turn_of t a (rolls s.history.events a ∷ []) iface s.moment bytes)
 room_turn t s a iface bytes known room = known_turn t s a iface bytes known ∙ room_at t s a iface bytes room
 
 pub full_turn : (t : Network) (s : State) (a : AsId) (iface : ℕ) (bytes : List ℕ) → has t a ≡ true → most_emitted < emitted s.history.emissions + length bytes

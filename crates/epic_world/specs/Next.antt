@@ -11,10 +11,12 @@ use Rattle.epic_num.specs.declared.path_ref.PathRef.{PathRef}
 use Rattle.epic_topo.specs.Network.{Network, has}
 use Rattle.epic_beacon.specs.declared.beacon.Beacon.{Beacon}
 use Rattle.epic_beacon.specs.Issuing.{originated, extended}
+use Rattle.epic_beacon.specs.Segments.{segments}
+use Rattle.epic_beacon.specs.Told.{beacons_in}
 use Rattle.epic_path.specs.Routes.{all_lawful}
 use Rattle.epic_ledger.specs.Facts.{issues_in}
 use Rattle.epic_ledger.specs.declared.event.Event.TheVariants as event
-use Rattle.epic_world.specs.State.{State, store_in, segments_in, is_known_in}
+use Rattle.epic_world.specs.State.{State, store_in, is_known_in}
 use Rattle.epic_world.specs.Turning.{turned_at}
 use Rattle.epic_world.specs.Stepped.{Stepped, answered, refused, recorded}
 
@@ -60,7 +62,7 @@ unfoldable pub next_paths : Network → State → AsId → AsId → Stepped
 next_paths t s from to =
     if not (has t from) then refused s (UnknownAs from)
     else if not (has t to) then refused s (UnknownAs to)
-    else found s (all_lawful (segments_in t (issues_in s.history.events)) from to)
+    else found s (all_lawful (segments (beacons_in t (issues_in s.history.events))) from to)
 
 unfoldable pub next_turn : Network → State → AsId → ℕ → List ℕ → Stepped
 next_turn t s a iface bytes =

@@ -1,11 +1,11 @@
 -- How steps end.
-use Rattle.std.specs.Prelude.{◌≡◌, ◌+◌, [], ◌∷◌, ◌++◌, Result, Ok, Err}
+use Rattle.std.specs.Prelude.{◌≡◌, ◌+◌, Result, Ok, Err}
 use Rattle.epic_num.specs.declared.answer.Answer.{Answer}
 use Rattle.epic_num.specs.declared.answer.Answer.TheVariants.{Refused}
 use Rattle.epic_num.specs.declared.answer.Refusal.{Refusal}
 use Rattle.epic_num.specs.declared.memory.OutOfMemory.{OutOfMemory}
-use Rattle.epic_ledger.specs.History.{History}
 use Rattle.epic_ledger.specs.declared.event.Event.{Event}
+use Rattle.epic_ledger.specs.OneMore.{with_event}
 use Rattle.epic_world.specs.State.{State}
 
 -- an answer, and the state after it
@@ -19,10 +19,6 @@ answered s answer = record { answer = answer; state = record s { steps = s.steps
 
 abbrev pub refused : State → Refusal → Stepped
 refused s refusal = answered s (Refused refusal)
-
--- one event, the last
-abbrev pub with_event : History → Event → History
-with_event h e = record h { events = h.events ++ e ∷ [] }
 
 -- one thing happened
 abbrev pub recorded : State → Event → Answer → Stepped

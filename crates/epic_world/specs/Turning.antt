@@ -19,7 +19,7 @@ use Rattle.epic_ledger.specs.Facts.{facts_of}
 use Rattle.epic_ledger.specs.declared.event.Event.TheVariants as event
 use Rattle.epic_router.specs.Turns.{turn_of, bytes_after}
 use Rattle.epic_audit.specs.Verdicts.{hop_verdict}
-use Rattle.epic_world.specs.State.{State, generation_in}
+use Rattle.epic_world.specs.State.{State, rolls}
 use Rattle.epic_world.specs.Stepped.{Stepped, answered}
 
 -- how many bytes all emissions may have
@@ -70,4 +70,4 @@ turned_by t s a iface bytes (Refused check hop) = answered s (passed a iface (Tu
 unfoldable pub turned_at : Network → State → AsId → ℕ → List ℕ → Stepped
 turned_at t s a iface bytes =
     if nat_lt most_emitted (emitted s.history.emissions + length bytes) then answered s (passed a iface Full 0 [])
-    else turned_by t s a iface bytes (turn_of t a (generation_in s.history.events a ∷ []) iface s.moment bytes)
+    else turned_by t s a iface bytes (turn_of t a (rolls s.history.events a ∷ []) iface s.moment bytes)

@@ -5,7 +5,7 @@ ghost use Rattle.epic_beacon.specs.Store.{issues_of};
 ghost use Rattle.epic_ledger.specs.Facts.{issues_in};
 ghost use Rattle.epic_ledger.specs.Lawful.{FitsIssue, IsLast};
 ghost use Rattle.epic_ledger.specs.declared.event.Event.TheVariants as event;
-ghost use Rattle.epic_world.specs.Stepped.{with_event};
+ghost use Rattle.epic_ledger.specs.OneMore.{with_event};
 
 use crate::World;
 use crate::laws::keeps;

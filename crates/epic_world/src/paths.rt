@@ -1,14 +1,12 @@
 //! The paths over the segments that were made.
 ghost use Rattle.std.specs.Prelude.{◌≡◌, ◌-◌, ◌^◌, ◌<◌, All, IsTrue, OnOk, IfOk, map, nat_eq};
 ghost use Rattle.std.specs.List.{IsDistinct};
-ghost use Rattle.epic_num.specs.Chains.{ended_issues};
 ghost use Rattle.epic_num.specs.Segments.{is_well_formed};
-ghost use Rattle.epic_beacon.specs.Store.{issues_of};
+ghost use Rattle.epic_beacon.specs.Segments.{segments};
 ghost use Rattle.epic_path.specs.Routes.{last_issue};
-ghost use Rattle.epic_world.specs.State.{segment_of};
 
 use crate::World;
-use epic_beacon::Beacons;
+use epic_beacon::{Beacons, segments_are_chains};
 use epic_num::{Answer, AsId, OutOfMemory, Refusal, Segment};
 use epic_path::{PathsError, all_paths};
 use std::alloc::{AllocError, Global};
@@ -18,10 +16,11 @@ const MOST_PATHS: u32 = 4096;
 
 /// The segments of all ended issues, in the order of their numbers.
 fn ended_segments(alloc: Global, beacons: &Beacons) -> Result<Vec<Segment>, AllocError>
-    ensures value { IfOk result (λ s. s.items ≡ map (segment_of beacons.now.beacons) (ended_issues (issues_of beacons.now.beacons))) }
+    ensures value { IfOk result (λ s. s.items ≡ segments beacons.now.beacons) }
     ensures well_formed { IfOk result (λ s. All (λ x. IsTrue (is_well_formed x)) s.items) }
     ensures distinct { IfOk result (λ s. IsDistinct nat_eq (map last_issue s.items)) }
 {
+    segments_are_chains();
     let mut segments = Vec::new(alloc);
     for before in 0..beacons.len() {
         match beacons.segment(before + 1) {

@@ -19,6 +19,7 @@ use crate::World;
 use crate::laws::keeps;
 use arrayvec::ArrayVec;
 use epic_audit::verdict_hop;
+use epic_layout::shape_of;
 use epic_ledger::{Event, Ledger};
 use epic_num::{
     Answer, AsId, HostId, OutOfMemory, PassResult, Passed, Place, Refusal, Turn, Verdict,
@@ -117,9 +118,7 @@ fn verdict(
     ensures hop { result.0 ≡ (parse bytes.now).current }
     ensures verdict { let p = parse bytes.now in result.1 ≡ hop_verdict topo.now (facts_of ledger.now.history) (hop_name a generation p p.current) p p.current }
 {
-    let Ok(packet) = PacketRef::look(bytes) else {
-        unreachable!()
-    };
+    let packet = PacketRef::of(bytes, shape_of(bytes));
     let hop = packet.current();
     (hop, verdict_hop(ledger, topo, a, generation, &packet, hop))
 }

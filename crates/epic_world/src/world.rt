@@ -1,3 +1,4 @@
+//! The world as its callers see it, and its step.
 ghost use Rattle.std.specs.Prelude.{◌≡◌, ◌-◌, ◌^◌, ◌<◌, ◌≤◌, IsTrue};
 ghost use Rattle.epic_ledger.specs.Facts.{facts_of};
 ghost use Rattle.epic_ledger.specs.Lawful.{IsLawful};
@@ -27,13 +28,15 @@ pub struct World {
 }
 
 impl Model for World {
-    ghost use Rattle.epic_world.specs.Refining.{Refines, Standing};
+    ghost use Rattle.epic_beacon.specs.Store.{store_of};
+    ghost use Rattle.epic_world.specs.Refining.{Refines};
+    ghost use Rattle.epic_world.specs.State.{Standing};
 
     ghost Value = { Standing };
 
     ghost view = { λ w. record { network = w.topo; state = record { moment = w.moment; steps = w.steps; history = w.ledger.history } } };
 
-    ghost invariant = { λ w. Refines w.topo w.beacons w.keys w.moment w.steps w.ledger.history };
+    ghost invariant = { λ w. Refines w.topo (store_of w.beacons) w.keys w.moment w.steps w.ledger.history };
 }
 
 impl World {
@@ -88,7 +91,12 @@ impl World {
         &self.ledger
     }
 
-    /// One step, of a command that worlds take so far. Where memory is wanting, nothing has changed.
+    /// One step, of a command that worlds take so far (`is_taken`), whose moment is at most `MAX_MOMENT`, in a world of fewer
+    /// than 2^30 - 1 steps. The answer and the state after it are those of the model's step (`next` in specs/Next), which
+    /// tells a refusal as an answer, and the verdicts in it are right over the ledger before the step.
+    ///
+    /// # Errors
+    /// `OutOfMemory` alone; it is no step, and nothing has changed.
     #[tactic(auto, unfolding(crate::specs::Next::next, crate::specs::Next::is_taken, crate::specs::Next::HasMoment))]
     pub fn step(&mut self, alloc: Global, command: &Command) -> Result<Answer, OutOfMemory>
         requires taken { IsTrue (is_taken command.now) }

@@ -1,3 +1,5 @@
+//! Scripts and their faults in tables.
+
 use super::*;
 use epic_num::{AsId, Bytes, Command};
 use std::test::Fail;

@@ -1,6 +1,6 @@
 use Rattle.std.proofs.Common.{◌≡◌, ◌+◌, drop}
 use Rattle.epic_text.specs.Counts.{total}
-use Rattle.epic_app.specs.RunReport.{count_all}
+use Rattle.epic_app.specs.StepLines.{count_all}
 use Rattle.epic_app.proofs.run_report.count_each.Given as goal
 
 -- the verdicts so far are counted

@@ -1,12 +1,15 @@
 use Rattle.std.proofs.Common.{rules, ℕ, ◌+◌, ◌<◌, ◌≤◌, List, ◌++◌, length, take, get_or, ap, sym, subst, ◌∙◌, arith}
-use Rattle.epic_ports.specs.Written.{Appends, AppendsFront}
-use Rattle.epic_ports.proofs.Appended.{Appends-none, Appends-trans, AppendsFront-after, AppendsFront-more, on_err}
+use Rattle.epic_ports.specs.Written.{Appends}
+use Rattle.epic_ports.proofs.Appended.{Appends-none, Appends-trans}
 use Rattle.epic_text.specs.Counts.{counts_of, end_line}
 use Rattle.epic_world.specs.Next.{next}
 use Rattle.epic_world.specs.Run.{run_from, state_after, done_by}
 use Rattle.epic_world.specs.State.{start}
-use Rattle.epic_app.specs.RunReport.{steps_text, step_text, all_verdicts, verdicts_in, count_all}
+use Rattle.epic_app.specs.RunReport.{steps_text, step_text, all_verdicts, verdicts_in}
+use Rattle.epic_app.specs.StepLines.{count_all}
 use Rattle.epic_app.proofs.RunLemmas.{next_state, next_text, next_verdicts, next_steps, run_front, run_whole, run_alarms, count_all-counts}
+use Rattle.epic_app.specs.Writing.{Stops}
+use Rattle.epic_app.proofs.WritingLaws.{stops_after, stops_in, writes_err}
 use Rattle.epic_app.proofs.run_report.write_run.Goals as goal
 
 pub loop-command-init : goal.loop-command-init
@@ -26,7 +29,7 @@ loop-command-preserved g c =
     let front = steps_text t (run_from t start (take i cs)) in
     let line = step_text t (done_by t (state_after t start (take i cs)) (get_or cs i d)) in
     let now = subst (λ (text : List ℕ). Appends (g.O.Sink.written c.loop-command.out) (g.O.Sink.written c.write_step.new.out) text)
-    (λ k. step_text (network k) (done_by (network k) (state k) (is k))) c.in_ok-counts.ensures.ok in (
+    (λ k. step_text (network k) (done_by (network k) (state k) (is k))) c.in_ok-counts.ensures.text in (
       c.in_ok-counts.ensures.network ∙ network,
       c.in_ok-counts.ensures.state ∙ ((λ k. (next (network k) (state k) (is k)).state) ∙ sym (next_state t cs i d within)),
       subst (λ (text : List ℕ). Appends (g.O.Sink.written c.args.out.now) (g.O.Sink.written c.write_step.new.out) text) (sym (next_text t cs i d within))
@@ -39,8 +42,8 @@ loop-command-preserved g c =
       omega (arith, faults, c.write_step.ensures.later),
     )
 
-pub returns-in_err-counts-clause-err : goal.returns-in_err-counts-clause-err
-returns-in_err-counts-clause-err g c =
+pub returns-in_err-counts-clause-text : goal.returns-in_err-counts-clause-text
+returns-in_err-counts-clause-text g c =
     let t = c.args.topo in
     let cs = c.args.commands.now in
     let i = c.loop-command.command-index in
@@ -51,24 +54,24 @@ returns-in_err-counts-clause-err g c =
     let front = steps_text t (run_from t start (take i cs)) in
     let line = step_text t (done_by t (state_after t start (take i cs)) (get_or cs i d)) in
     let (more, whole) = run_front t cs i d within in
-    let now = subst (λ (text : List ℕ). AppendsFront (g.O.Sink.written c.loop-command.out) (g.O.Sink.written c.write_step.new.out) text)
-    (λ k. step_text (network k) (done_by (network k) (state k) (is k))) c.in_err-counts.ensures.err in
-    on_err _ _ (subst (λ (text : List ℕ). AppendsFront (g.O.Sink.written c.args.out.now) (g.O.Sink.written c.write_step.new.out) text) (sym whole)
-    (AppendsFront-after _ _ _ front (line ++ more) written (AppendsFront-more _ _ line more now)))
+    let now = subst (λ (text : List ℕ). Stops text (g.O.Sink.written c.loop-command.out) (g.O.Sink.written c.write_step.new.out) (g.O.Sink.faults c.loop-command.out) (g.O.Sink.faults c.write_step.new.out) c.in_err-counts.field-0.0)
+    (λ k. step_text (network k) (done_by (network k) (state k) (is k))) c.in_err-counts.ensures.text in
+    writes_err _ _ _ _ _ _ c.in_err-counts.field-0.0 (search rules) (stops_in _ _ _ front line more _ _ _ _ _ written faults now whole)
 
-pub returns-in_err-write_end-clause-err : goal.returns-in_err-write_end-clause-err
-returns-in_err-write_end-clause-err g c =
+pub returns-in_err-write_end-clause-text : goal.returns-in_err-write_end-clause-text
+returns-in_err-write_end-clause-text g c =
     let t = c.args.topo in
     let cs = c.args.commands.now in
     let i = c.loop-command.command-index in
     let past : length cs ≤ i = omega arith in
     let (network, state, written, counts, steps, few, faults) = c.loop-command.invariant in
-    on_err _ _ (subst (λ (text : List ℕ). AppendsFront (g.O.Sink.written c.args.out.now) (g.O.Sink.written c.write_end.new.out) text)
+    writes_err _ _ _ _ _ _ c.in_err-write_end.field-0.0 (search rules)
+    (subst (λ (text : List ℕ). Stops text (g.O.Sink.written c.args.out.now) (g.O.Sink.written c.write_end.new.out) (g.O.Sink.faults c.args.out.now) (g.O.Sink.faults c.write_end.new.out) c.in_err-write_end.field-0.0)
     (sym (run_whole t cs i c.loop-command.counts past counts))
-    (AppendsFront-after _ _ _ (steps_text t (run_from t start (take i cs))) (end_line (record c.loop-command.counts { steps = length cs })) written c.in_err-write_end.ensures.err))
+    (stops_after _ _ _ (steps_text t (run_from t start (take i cs))) (end_line (record c.loop-command.counts { steps = length cs })) _ _ _ _ written faults c.in_err-write_end.ensures.text))
 
-pub returns-clause-ok : goal.returns-clause-ok
-returns-clause-ok g c =
+pub returns-clause-text : goal.returns-clause-text
+returns-clause-text g c =
     let t = c.args.topo in
     let cs = c.args.commands.now in
     let i = c.loop-command.command-index in
@@ -76,7 +79,7 @@ returns-clause-ok g c =
     let (network, state, written, counts, steps, few, faults) = c.loop-command.invariant in
     subst (λ (text : List ℕ). Appends (g.O.Sink.written c.args.out.now) (g.O.Sink.written c.write_end.new.out) text)
     (sym (run_whole t cs i c.loop-command.counts past counts))
-    (Appends-trans _ _ _ (steps_text t (run_from t start (take i cs))) (end_line (record c.loop-command.counts { steps = length cs })) written c.in_ok-write_end.ensures.ok)
+    (Appends-trans _ _ _ (steps_text t (run_from t start (take i cs))) (end_line (record c.loop-command.counts { steps = length cs })) written c.in_ok-write_end.ensures.text)
 
 pub returns-clause-forged : goal.returns-clause-forged
 returns-clause-forged g c =

@@ -10,4 +10,4 @@ returns-clause-ends g c = rw c.status.ensures (ends_under (request_of (map strin
 
 pub returns-clause-report_holds : goal.returns-clause-report_holds
 returns-clause-report_holds g c =
-    rw c.status.ensures (holds_under c.runs_are_sound.ensures.start c.runs_are_sound.ensures.runs (request_of (map string_bytes c.args.words.now)) _ _ _ _ _ (ends_under (request_of (map string_bytes c.args.words.now)) _ _ _ _ _ c.perform-end.ensures c.tell.ensures))
+    rw c.status.ensures (holds_under c.runs_hold.ensures (request_of (map string_bytes c.args.words.now)) _ _ _ _ _ (ends_under (request_of (map string_bytes c.args.words.now)) _ _ _ _ _ c.perform-end.ensures c.tell.ensures))

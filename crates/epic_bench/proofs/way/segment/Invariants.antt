@@ -1,4 +1,4 @@
-use Rattle.epic_keys.specs.Issues.{IssuesKept}
+use Rattle.epic_fields.specs.Issues.{IssuesKept}
 use Rattle.epic_beacon.specs.Kinds.{KindsKept}
 use Rattle.epic_beacon.specs.Store.{issues_of}
 use Rattle.epic_bench.proofs.way.segment.Given as goal

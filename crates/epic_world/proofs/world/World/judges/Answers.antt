@@ -1,8 +1,7 @@
 use Rattle.std.proofs.Common.{subst}
-use Rattle.epic_world.specs.Refining.{Standing}
 use Rattle.epic_world.specs.Run.{done_by}
 use Rattle.epic_world.specs.Sound.{IsSound, VerdictsHold}
-use Rattle.epic_world.specs.State.{State}
+use Rattle.epic_world.specs.State.{Standing, State}
 use Rattle.epic_world.proofs.world.World.judges.Goals as goal
 
 pub returns : goal.returns

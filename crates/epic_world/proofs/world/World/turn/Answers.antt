@@ -13,14 +13,17 @@ use Rattle.epic_ledger.specs.History.{History, emitted}
 use Rattle.epic_fields.specs.HopChecks.{hop_name}
 use Rattle.epic_ledger.specs.Facts.{facts_of}
 use Rattle.epic_ledger.specs.Lawful.{IsEmission}
+use Rattle.epic_ledger.proofs.Growing.{spelled_in}
 use Rattle.epic_audit.specs.Verdicts.{hop_verdict}
+use Rattle.epic_beacon.specs.Store.{store_of}
 use Rattle.epic_world.specs.Next.{next_turn}
 use Rattle.epic_world.specs.Passing.{with_pass}
-use Rattle.epic_world.specs.Refining.{Refines, Standing}
-use Rattle.epic_world.specs.State.{State, generation_in}
+use Rattle.epic_world.specs.Refining.{Refines}
+use Rattle.epic_world.specs.State.{Standing, State, rolls}
 use Rattle.epic_world.specs.Stepped.{Steps, answered}
 use Rattle.epic_world.specs.Turning.{most_emitted, passed, turned_by}
 use Rattle.epic_world.proofs.Passages.{ledger_keeps, passed_on}
+use Rattle.epic_world.proofs.Refined.{rolled_as}
 use Rattle.epic_world.proofs.Turned.{SentOn, sent_on, not_sent, stays_passable, still_there, accepts, room_turn, full_turn}
 use Rattle.epic_world.proofs.world.World.turn.Goals as goal
 use Rattle.epic_world.proofs.world.World.turn.Goals.{In-Some}
@@ -47,8 +50,8 @@ returns-in-None-clause-step c =
     let few = c.self.invariant.few_bytes in
     let room : emitted w.ledger.history.emissions + length c.args.bytes.now ≤ most_emitted = omega (arith, few, c.emitted.ensures, c.if-bytes-emitted.false) in
     let turn : Turn = c.turned-answer.result in
-    let candidates : c.generation-generation.result ≡ generation_in w.ledger.history.events c.args.a = c.generation-generation.ensures ∙ c.self.invariant.generations c.args.a in
-    let same : turn ≡ turn_of w.topo c.args.a (generation_in w.ledger.history.events c.args.a ∷ []) c.args.iface w.moment c.args.bytes.now =
+    let candidates : c.generation-generation.result ≡ rolls w.ledger.history.events c.args.a = c.generation-generation.ensures ∙ rolled_as w.topo w.ledger.history.events (store_of w.beacons) c.args.a c.self.invariant.stored in
+    let same : turn ≡ turn_of w.topo c.args.a (rolls w.ledger.history.events c.args.a ∷ []) c.args.iface w.moment c.args.bytes.now =
     c.turned-answer.ensures.answer
     ∙ (ap (turn_of w.topo c.args.a (c.generation-generation.result ∷ []) c.args.iface w.moment) c.in-Ok.ensures
     ∙ ap (λ g. turn_of w.topo c.args.a (g ∷ []) c.args.iface w.moment c.args.bytes.now) candidates) in
@@ -68,10 +71,10 @@ returns-in-None-clause-step c =
 
 -- what the router answered is what it answers in the model
 answer_is : (c : In-Some) → let w = c.self.inside in
-    c.turned-answer.result ≡ turn_of w.topo c.args.a (generation_in w.ledger.history.events c.args.a ∷ []) c.args.iface w.moment c.args.bytes.now
+    c.turned-answer.result ≡ turn_of w.topo c.args.a (rolls w.ledger.history.events c.args.a ∷ []) c.args.iface w.moment c.args.bytes.now
 answer_is c =
     let w = c.self.inside in
-    let candidates : c.generation-generation.result ≡ generation_in w.ledger.history.events c.args.a = c.generation-generation.ensures ∙ c.self.invariant.generations c.args.a in
+    let candidates : c.generation-generation.result ≡ rolls w.ledger.history.events c.args.a = c.generation-generation.ensures ∙ rolled_as w.topo w.ledger.history.events (store_of w.beacons) c.args.a c.self.invariant.stored in
     c.turned-answer.ensures.answer
     ∙ (ap (turn_of w.topo c.args.a (c.generation-generation.result ∷ []) c.args.iface w.moment) c.in-Ok.ensures
     ∙ ap (λ g. turn_of w.topo c.args.a (g ∷ []) c.args.iface w.moment c.args.bytes.now) candidates)
@@ -124,22 +127,20 @@ invariant_of-self-in-Some c =
     let left = bytes_after c.turned-answer.result c.args.bytes.now in
     let g = c.generation-generation.result in
     let q = sent d in
-    let r = subst (Refines w.topo w.beacons w.keys w.moment w.steps) (sym c.reserve.ensures.history) c.self.invariant in
+    let r = subst (Refines w.topo (store_of w.beacons) w.keys w.moment w.steps) (sym c.reserve.ensures.history) c.self.invariant in
     let history : c.record_pass-emission.new.ledger.history ≡ with_pass h (w.steps + 1) c.args.a p.current g c.in-Some.due left =
     c.record_pass-emission.ensures.history
     ∙ (ap (λ j. with_pass h (w.steps + 1) c.args.a j g c.in-Some.due c.as_slice.result.now) c.verdict-hop.ensures.hop
     ∙ ap (with_pass h (w.steps + 1) c.args.a p.current g c.in-Some.due) (c.as_slice.ensures.value ∙ left_is d)) in
-    let spelled : IsEmission (record { place = c.in-Some.due; bytes = left }) = record {
-      bytes = q.still_bytes (IsBytes-from c.args.bytes.now c.type_inv.bytes);
-      faultless = q.left_faultless;
-    } in
+    let spelled : IsEmission (record { place = c.in-Some.due; bytes = left }) =
+    spelled_in (record { place = c.in-Some.due; bytes = left }) (q.still_bytes (IsBytes-from c.args.bytes.now c.type_inv.bytes)) q.left_faultless in
     let few = r.few_bytes in
     let long = q.same_length in
     let room : emitted h.emissions + length left ≤ most_emitted =
     subst (λ (k : History). emitted k.emissions + length left ≤ most_emitted) (sym c.reserve.ensures.history)
     (omega (arith, long, c.self.invariant.few_bytes, c.emitted.ensures, c.if-bytes-emitted.false)) in
-    subst (Refines w.topo w.beacons w.keys w.moment (w.steps + 1)) (sym history)
-    (passed_on w.topo w.beacons w.keys w.moment w.steps h c.args.a p.current g c.in-Some.due left r
+    subst (Refines w.topo (store_of w.beacons) w.keys w.moment (w.steps + 1)) (sym history)
+    (passed_on w.topo (store_of w.beacons) w.keys w.moment w.steps h c.args.a p.current g c.in-Some.due left r
     (ledger_keeps w.topo h c.args.a g (w.steps + 1) c.in-Some.due p left c.keeps.ensures.events c.keeps.ensures.emissions c.keeps.ensures.spelled
     c.keeps.ensures.lawful r.kept spelled q.passable)
     room)

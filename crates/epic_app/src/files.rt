@@ -1,31 +1,30 @@
-//! The files of a run: its topology and its script.
+//! The files that commands read: a topology, and commands line by line.
 
-ghost use Rattle.std.specs.Prelude.{◌≡◌, ◌≤◌, All, IfOk, length};
+ghost use Rattle.std.specs.Prelude.{◌≡◌, ◌^◌, ◌<◌, ◌≤◌, IfOk, List, ℕ, Ok, length};
 ghost use Rattle.epic_ports.specs.Faults.{CountsOnly};
 ghost use Rattle.epic_ports.specs.Files.{KeepsFiles};
-ghost use Rattle.epic_app.specs.RunFiles.{IsTakenUp, ReadsScript, ReadsTopology};
+ghost use Rattle.epic_text.specs.Script.{commands_of};
+ghost use Rattle.epic_app.specs.Doing.{on_commands, on_topology};
+ghost use Rattle.epic_app.specs.FilesRead.{Leads};
 
 use crate::end::End;
-use epic_num::Command;
 use epic_ports::{ReadError, Store, read_whole};
-use epic_text::{ScriptError, read_script};
+use epic_text::{FromWords, ScriptError, read_script};
 use epic_topo::{TopoError, Topology, read_topology};
 use std::alloc::Global;
 
 /// The greatest length of a topology, in bytes.
-pub const TOPOLOGY_LIMIT: u64 = 1_048_576;
+const TOPOLOGY_LIMIT: u64 = 1_048_576;
 
-/// The greatest length of a script, in bytes.
-pub const SCRIPT_LIMIT: u64 = 16_777_216;
-
-/// The topology of a file, or how the run ends without one.
+/// The topology of a file, or how the command ends without one.
 pub fn topology_in<'a, S: Store>(
     alloc: Global,
     name: &'a str,
     store: &mut S,
 ) -> Result<Topology, End<'a>>
-    ensures value { ReadsTopology (S.contents store.old) name.entry.now
-        (S.reads store.old name.entry.now) (S.reads store.new name.entry.now) result }
+    ensures leads { Leads (S.contents store.old) name.entry.now
+        (S.reads store.old name.entry.now) (S.reads store.new name.entry.now)
+        (on_topology name.entry.now) (λ t. t) result }
     ensures contents { KeepsFiles (S.contents store.old) (S.contents store.new) }
     ensures reads { CountsOnly name.entry.now (S.reads store.old) (S.reads store.new) }
     ensures writes { S.writes store.new ≡ S.writes store.old }
@@ -43,27 +42,31 @@ pub fn topology_in<'a, S: Store>(
     }
 }
 
-/// The commands of a file, or how the run ends without them.
-pub fn script_in<'a, S: Store>(
+/// The commands of a file of at most `limit` bytes, or how the command ends without them.
+pub fn commands_in<'a, C: FromWords, S: Store>(
     alloc: Global,
     name: &'a str,
+    limit: u64,
     store: &mut S,
-) -> Result<Vec<Command>, End<'a>>
-    ensures value { ReadsScript (S.contents store.old) name.entry.now
-        (S.reads store.old name.entry.now) (S.reads store.new name.entry.now) result }
+) -> Result<Vec<C>, End<'a>>
+    requires { limit < 2 ^ 32 }
+    ensures leads { Leads (S.contents store.old) name.entry.now
+        (S.reads store.old name.entry.now) (S.reads store.new name.entry.now)
+        (on_commands name.entry.now limit C.rule) (λ commands. commands.items) result }
+    ensures spelled { IfOk result (λ commands.
+        (text : List ℕ) × (commands_of C.rule text ≡ Ok commands.items)) }
     ensures few { IfOk result (λ commands. length commands.items ≤ 524288) }
-    ensures taken { IfOk result (λ commands. All IsTakenUp commands.items) }
     ensures contents { KeepsFiles (S.contents store.old) (S.contents store.new) }
     ensures reads { CountsOnly name.entry.now (S.reads store.old) (S.reads store.new) }
     ensures writes { S.writes store.new ≡ S.writes store.old }
 {
-    let text = match read_whole(alloc, store, name, SCRIPT_LIMIT) {
+    let text = match read_whole(alloc, store, name, limit) {
         Ok(text) => text,
         Err(ReadError::Failed) => return Err(End::ReadFault(name)),
         Err(ReadError::TooLong) => return Err(End::LongScript),
         Err(ReadError::OutOfMemory) => return Err(End::OutOfMemory),
     };
-    match read_script::<Command>(alloc, &text) {
+    match read_script::<C>(alloc, &text) {
         Ok(commands) => Ok(commands),
         Err(ScriptError::Bad { line, kind }) => Err(End::BadScript { line, kind }),
         Err(ScriptError::OutOfMemory) => Err(End::OutOfMemory),

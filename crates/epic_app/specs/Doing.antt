@@ -1,0 +1,91 @@
+-- What a command does, from what it read of its files. A new command adds a case to `doing`.
+use Rattle.std.specs.Prelude.{ℕ, Bool, if◌then◌else◌, nat_lt, List, [], ◌∷◌, ◌++◌, length, count_by, flat_map, Option, Some, None, Result, Ok, Err}
+use Rattle.epic_num.specs.declared.command.Command.{Command}
+use Rattle.epic_topo.specs.Network.{Network}
+use Rattle.epic_topo.specs.Reading.{topology as topology_of}
+use Rattle.epic_topo.specs.declared.fault.TopoError.{TopoError}
+use Rattle.epic_topo.specs.declared.fault.TopoError.TheVariants.{Bad, OutOfMemory}
+use Rattle.epic_text.specs.Counts.{counts_of, end_line}
+use Rattle.epic_text.specs.RunScript.{run_rule}
+use Rattle.epic_text.specs.Script.{Fault, Rule, commands_of}
+use Rattle.epic_world.specs.Run.{Done, run}
+use Rattle.epic_app.specs.declared.hop_file.HopCommand.{HopCommand}
+use Rattle.epic_app.specs.Acts.{Act, prints}
+use Rattle.epic_app.specs.FaultLines.{fault_line, long_topology_line, read_line, too_long_line, topology_line}
+use Rattle.epic_app.specs.HopFile.{hop_rule}
+use Rattle.epic_app.specs.HopReport.{answers, hop_report, is_forged}
+use Rattle.epic_app.specs.Limits.{file_limit, script_limit, topology_limit}
+use Rattle.epic_app.specs.Readings.{Reading, Whole, Failed, Unread}
+use Rattle.epic_app.specs.Request.{Request, Hop, Run}
+use Rattle.epic_app.specs.RunReport.{all_verdicts, has_alarm, step_text}
+
+pub record Progress : Type 0 where
+  -- what it does, in order
+  pub acts : List Act
+  -- status and line on the errors; none where more of its files has to be read first
+  pub ending : Option (ℕ × List ℕ)
+
+abbrev pub ends : List Act → ℕ → List ℕ → Progress
+ends acts status line = record { acts = acts; ending = Some (status, line) }
+
+abbrev pub goes_on : List Act → Progress
+goes_on acts = record { acts = acts; ending = None }
+
+-- ---- files, in the order in which they are read
+
+-- what follows from the bytes of a file
+unfoldable pub whole : List ℕ → Reading → (List ℕ → Progress) → Progress
+whole name (Whole bytes) next = next bytes
+whole name (Failed front) next = ends [] 6 (read_line name)
+whole name Unread next = goes_on []
+
+-- bytes beyond a limit end the command with this status and line
+unfoldable pub within : ℕ → ℕ → List ℕ → List ℕ → Progress → Progress
+within limit status line bytes next = if nat_lt limit (length bytes) then ends [] status line else next
+
+unfoldable pub by_topology : Result Network TopoError → (Network → Progress) → Progress
+by_topology (Ok t) next = next t
+by_topology (Err (Bad kind key item)) next = ends [] 3 (topology_line kind key item)
+by_topology (Err OutOfMemory) next = goes_on []
+
+unfoldable pub by_commands : {C : Type 0} → Result (List C) Fault → (List C → Progress) → Progress
+by_commands (Ok commands) next = next commands
+by_commands (Err (line, kind)) next = ends [] 4 (fault_line line kind)
+
+-- what follows from the topology of a file
+unfoldable pub on_topology : List ℕ → Reading → (Network → Progress) → Progress
+on_topology name reading next =
+    whole name reading (λ text. within topology_limit 3 long_topology_line text (by_topology (topology_of text) next))
+
+-- what follows from the commands of a file
+unfoldable pub on_commands : {C : Type 0} → List ℕ → ℕ → Rule C → Reading → (List C → Progress) → Progress
+on_commands name limit rule reading next =
+    whole name reading (λ text. within limit 4 too_long_line text (by_commands (commands_of rule text) next))
+
+-- ---- commands
+
+-- 1 tells that some tag was forged, or that two hops have one
+abbrev pub alarm_status : Bool → ℕ
+alarm_status alarm = if alarm then 1 else 0
+
+-- the answers of `hop` to all commands of its file are written
+unfoldable pub hop_done : List ℕ → List HopCommand → Progress
+hop_done key commands =
+    ends (prints (hop_report key commands)) (alarm_status (nat_lt 0 (count_by is_forged (answers key commands)))) []
+
+-- the lines of each step are written, and at the end what the verdicts were
+unfoldable pub steps_acts : Network → List Done → List Act
+steps_acts t steps =
+    flat_map (λ d. prints (step_text t d)) steps ++ prints (end_line (counts_of (length steps) (all_verdicts steps)))
+
+-- the script's commands are done one after the other
+unfoldable pub run_done : Network → List Command → Progress
+run_done t commands = ends (steps_acts t (run t commands)) (alarm_status (has_alarm (run t commands))) []
+
+-- What a command does and how it ends, from a reading of each of its files; they are looked at in order, and the first that
+-- refuses or fails decides.
+unfoldable pub doing : Request → List Reading → Progress
+doing (Hop key name) (file ∷ []) = on_commands name file_limit hop_rule file (hop_done key)
+doing (Run topology script) (first ∷ second ∷ []) =
+    on_topology topology first (λ t. on_commands script script_limit run_rule second (run_done t))
+doing request readings = goes_on []

@@ -1,0 +1,44 @@
+-- The line that the errors get.
+use Rattle.std.specs.Prelude.{ℕ, List, codes, decimal}
+use Rattle.epic_topo.specs.Words.{kind_word, key_word}
+use Rattle.epic_topo.specs.declared.fault.TopoKey.{TopoKey}
+use Rattle.epic_topo.specs.declared.fault.TopoKind.{TopoKind}
+use Rattle.epic_text.specs.declared.script.ScriptKind.{ScriptKind}
+use Rattle.epic_text.specs.declared.script.ScriptKind.TheVariants.{NotText, UnknownVerb, WordCount, BadWord, TooMany}
+use Rattle.epic_app.specs.HopReport.{◌⊕◌}
+
+abbrev pub words_line : List ℕ
+words_line = codes "epic: words\n"
+
+abbrev pub topology_line : TopoKind → TopoKey → ℕ → List ℕ
+topology_line kind key item =
+    codes "epic: topology " ⊕ (kind_word kind ⊕ (codes " " ⊕ (key_word key ⊕ (codes " " ⊕ (decimal item ⊕ codes "\n")))))
+
+abbrev pub long_topology_line : List ℕ
+long_topology_line = codes "epic: topology too-long text 0\n"
+
+abbrev pub kind_text : ScriptKind → List ℕ
+kind_text NotText = codes "not-text"
+kind_text UnknownVerb = codes "unknown-verb"
+kind_text WordCount = codes "word-count"
+kind_text (BadWord word) = codes "bad-word " ⊕ decimal word
+kind_text TooMany = codes "too-many"
+
+abbrev pub named_line : ℕ → List ℕ → List ℕ
+named_line line name = codes "epic: script " ⊕ (decimal line ⊕ (codes " " ⊕ (name ⊕ codes "\n")))
+
+-- a script, or the file of `hop`, is refused at a line
+abbrev pub fault_line : ℕ → ScriptKind → List ℕ
+fault_line line kind = named_line line (kind_text kind)
+
+abbrev pub too_long_line : List ℕ
+too_long_line = codes "epic: script too-long\n"
+
+abbrev pub read_line : List ℕ → List ℕ
+read_line name = codes "epic: read " ⊕ (name ⊕ codes "\n")
+
+abbrev pub write_line : List ℕ
+write_line = codes "epic: write\n"
+
+abbrev pub memory_line : List ℕ
+memory_line = codes "epic: memory\n"
