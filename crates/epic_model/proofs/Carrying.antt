@@ -36,7 +36,7 @@ use Rattle.epic_layout.specs.Updates.{own_updates}
 use Rattle.epic_layout.proofs.Joins.{segments_join}
 use Rattle.epic_layout.proofs.OneSpelling.{packets_are_spelled}
 use Rattle.epic_topo.specs.Network.{Network, neighbour}
-use Rattle.epic_window.specs.Entries.{seen, count}
+use Rattle.epic_window.specs.Entries.{seen, count, told_of}
 use Rattle.epic_window.specs.declared.key.WinKey.{WinKey}
 use Rattle.epic_fields.specs.HopChecks.{hop_name}
 use Rattle.epic_fields.specs.Formulas.{dest_tag}
@@ -59,7 +59,8 @@ use Rattle.epic_model.specs.Carried.{Each, IsWelcome, IsProvedHop, IsEndVerdict,
 use Rattle.epic_model.specs.Honest.{Honest, count_below, is_turn_at}
 use Rattle.epic_model.specs.Passing.{Happened, most_emitted, rolls, nothing, passes_from, hop_verdicts, left, due_behind, turned_by, answer_at, turned_at, arrives, arrived_by, arrival_at, arrived_at, pass_at, passed_on, carried}
 use Rattle.epic_model.specs.Sends.{IsOnRecord}
-use Rattle.epic_model.specs.Windows.{key_at, told_of, router_window, host_window}
+use Rattle.epic_model.specs.Windows.{router_window, host_window}
+use Rattle.epic_router.specs.Remembering.{key_at}
 use Rattle.epic_model.proofs.Counting.{count_room}
 use Rattle.epic_model.proofs.Grown.{parse-spelling}
 use Rattle.epic_model.proofs.Longer.{longer}

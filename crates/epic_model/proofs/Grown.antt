@@ -23,7 +23,8 @@ use Rattle.epic_ledger.specs.declared.event.Event.TheVariants as event
 use Rattle.epic_ledger.proofs.Growing.{emission_at-suc, packet_at-append}
 use Rattle.epic_audit.proofs.Lists.{same_answers}
 use Rattle.epic_model.specs.Passing.{passes_from}
-use Rattle.epic_model.specs.Windows.{key_at, router_entry, router_window}
+use Rattle.epic_model.specs.Windows.{router_entry, router_window}
+use Rattle.epic_router.specs.Remembering.{key_at}
 
 -- what a packet's one spelling says is the packet
 pub parse-spelling : (p : Contents) → IsPacket p → parse (spelling p) ≡ p

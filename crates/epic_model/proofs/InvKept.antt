@@ -47,7 +47,9 @@ use Rattle.epic_model.specs.Passing.{Happened, rolls, passes_from, left, due_beh
 use Rattle.epic_model.specs.Sends.{IsRouted}
 use Rattle.epic_model.specs.Sound.{IsSound}
 use Rattle.epic_model.specs.Twice.{Passes, BeginWell}
-use Rattle.epic_model.specs.Windows.{key_at, told_of, router_entry, router_window, host_entry, AreOnce, NoneTwice}
+use Rattle.epic_model.specs.Windows.{router_entry, router_window, host_entry, AreOnce, NoneTwice}
+use Rattle.epic_router.specs.Remembering.{key_at}
+use Rattle.epic_window.specs.Entries.{told_of}
 use Rattle.epic_model.proofs.Longer.{none_behind, at_front, same_issues, same_sends}
 use Rattle.epic_model.proofs.Once.{IsDueFrom, after_turn, after_arrival, left_once, arrivals_stay_once, nothing_twice}
 use Rattle.epic_model.proofs.Remembered.{once_others}

@@ -22,7 +22,8 @@ use Rattle.epic_ledger.specs.declared.event.Event.TheVariants as event
 use Rattle.epic_ledger.proofs.Growing.{packet_at-append}
 use Rattle.epic_audit.proofs.Lists.{same_answers}
 use Rattle.epic_model.specs.Passing.{is_roll, rolls, passes_from}
-use Rattle.epic_model.specs.Windows.{key_at, router_entry, host_entry, router_window, host_window}
+use Rattle.epic_model.specs.Windows.{router_entry, host_entry, router_window, host_window}
+use Rattle.epic_router.specs.Remembering.{key_at}
 use Rattle.epic_model.proofs.Grown.{passes_at}
 use Rattle.epic_router.specs.Checks.{is_turn}
 use Rattle.epic_num.specs.Levels.{is_timed}

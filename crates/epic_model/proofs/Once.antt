@@ -25,7 +25,7 @@ use Rattle.epic_layout.specs.Route.{Route, place, is_first}
 use Rattle.epic_layout.specs.Spelling.{spelling}
 use Rattle.epic_layout.proofs.Joins.{segments_join}
 use Rattle.epic_topo.specs.Network.{Network, neighbour}
-use Rattle.epic_window.specs.Entries.{seen}
+use Rattle.epic_window.specs.Entries.{seen, told_of}
 use Rattle.epic_window.specs.declared.key.WinKey.{WinKey}
 use Rattle.epic_router.specs.Candidates.{candidates_of}
 use Rattle.epic_router.specs.Checks.{is_turn, has_second, handled_hops}
@@ -41,7 +41,8 @@ use Rattle.epic_ledger.specs.declared.event.Event.{Event}
 use Rattle.epic_ledger.specs.declared.event.Event.TheVariants as event
 use Rattle.epic_model.specs.Passing.{most_emitted, rolls, passes_from, nothing, left, due_behind, turned_by, answer_at, turned_at, arrives, arrived_by, arrival_at, arrived_at, Happened}
 use Rattle.epic_model.specs.Twice.{NothingTwice, TurnsStayOnce, ArrivalsStayOnce}
-use Rattle.epic_model.specs.Windows.{key_at, told_of, router_entry, router_window, host_entry, host_window, AreOnce, NoneTwice}
+use Rattle.epic_model.specs.Windows.{router_entry, router_window, host_entry, host_window, AreOnce, NoneTwice}
+use Rattle.epic_router.specs.Remembering.{key_at}
 use Rattle.epic_model.proofs.Grown.{parse-spelling, packet_next, passes_at, entry_stays}
 use Rattle.epic_model.proofs.Remembered.{fresh_live, unfound, once_same, once_none, once_more, once_others, once_first}
 

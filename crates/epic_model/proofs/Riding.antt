@@ -37,7 +37,8 @@ use Rattle.epic_audit.proofs.Lists.{answered}
 use Rattle.epic_model.specs.Carried.{IsReady, NoOtherPassed}
 use Rattle.epic_model.specs.Honest.{Honest, count_below, is_turn_at}
 use Rattle.epic_model.specs.Passing.{rolls, passes_from}
-use Rattle.epic_model.specs.Windows.{key_at, router_entry, router_window, host_window}
+use Rattle.epic_model.specs.Windows.{router_entry, router_window, host_window}
+use Rattle.epic_router.specs.Remembering.{key_at}
 use Rattle.epic_model.proofs.Counting.{count_turn}
 use Rattle.epic_model.proofs.Grown.{parse-spelling, emission_next, packet_next, passes_at}
 use Rattle.epic_model.proofs.Longer.{IsThere, AreThere, longer, same_rolls, same_issues, same_reveals, same_host_window, same_sends, emitted_more, window_more, seen_more, count_more, keys_differ, one_entry, at_front, at_back, pass_stays}

@@ -40,7 +40,9 @@ use Rattle.epic_audit.proofs.Keeping.{events_keep}
 use Rattle.epic_model.specs.Passing.{rolls, passes_from, left, arrives, turned_at, arrived_at}
 use Rattle.epic_model.specs.Sound.{IsSound, TurnsAreSound, ArrivalsAreSound}
 use Rattle.epic_model.specs.Twice.{Passes, PassesFirst, BeginWell, NoTwoEmissions, NoneTwiceByEmissions, TurnsBeginWell}
-use Rattle.epic_model.specs.Windows.{key_at, told_of, router_entry, router_window, NoneTwice}
+use Rattle.epic_model.specs.Windows.{router_entry, router_window, NoneTwice}
+use Rattle.epic_router.specs.Remembering.{key_at}
+use Rattle.epic_window.specs.Entries.{told_of}
 use Rattle.epic_model.proofs.Grown.{parse-spelling, emission_next, packet_next}
 use Rattle.epic_model.proofs.Longer.{IsThere, AreThere, at_front, at_back}
 use Rattle.epic_model.proofs.Once.{after_turn, after_arrival, turn_by_route}

@@ -14,7 +14,8 @@ use Rattle.epic_router.specs.Candidates.{tags_fit}
 use Rattle.epic_router.specs.Checks.{is_turn}
 use Rattle.epic_ledger.specs.History.{History, emitted}
 use Rattle.epic_model.specs.Passing.{rolls, most_emitted}
-use Rattle.epic_model.specs.Windows.{key_at, router_window, host_window}
+use Rattle.epic_model.specs.Windows.{router_window, host_window}
+use Rattle.epic_router.specs.Remembering.{key_at}
 
 -- how many numbers below n meet the test
 unfoldable pub count_below : (ℕ → Bool) → ℕ → ℕ

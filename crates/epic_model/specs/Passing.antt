@@ -27,7 +27,9 @@ use Rattle.epic_ledger.specs.Facts.{Facts, facts_of}
 use Rattle.epic_ledger.specs.declared.event.Event.{Event}
 use Rattle.epic_ledger.specs.declared.event.Event.TheVariants as event
 use Rattle.epic_audit.specs.Verdicts.{hop_verdict, dest_verdict}
-use Rattle.epic_model.specs.Windows.{key_at, told_of, router_window, host_window}
+use Rattle.epic_model.specs.Windows.{router_window, host_window}
+use Rattle.epic_router.specs.Remembering.{key_at}
+use Rattle.epic_window.specs.Entries.{told_of}
 
 -- how many bytes all emissions may have
 abbrev pub most_emitted : ℕ

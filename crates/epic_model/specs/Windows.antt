@@ -2,26 +2,16 @@
 use Rattle.std.specs.Prelude.{◌≡◌, ℕ, Bool, ◌&&◌, if◌then◌else◌, List, filter_map, slice_get, Option, None, Some}
 use Rattle.epic_num.specs.declared.name.AsId.{AsId}
 use Rattle.epic_num.specs.declared.name.HostId.{HostId}
-use Rattle.epic_num.specs.declared.profile.Profile.{Profile}
 use Rattle.epic_num.specs.Levels.{is_timed}
 use Rattle.epic_num.specs.Same.{same_as, same_host}
-use Rattle.epic_num.specs.Windows.{Told}
-use Rattle.epic_layout.specs.Contents.{Contents}
-use Rattle.epic_window.specs.Entries.{Entries, seen, count}
+use Rattle.epic_window.specs.Entries.{Entries}
 use Rattle.epic_window.specs.declared.key.WinKey.{WinKey}
 use Rattle.epic_router.specs.Checks.{is_turn}
+use Rattle.epic_router.specs.Remembering.{key_at}
 use Rattle.epic_ledger.specs.History.{History, Emission}
 use Rattle.epic_ledger.specs.Facts.{packet_at}
 use Rattle.epic_ledger.specs.declared.event.Event.{Event}
 use Rattle.epic_ledger.specs.declared.event.Event.TheVariants as event
-
--- what a window knows a packet by, at a hop
-unfoldable pub key_at : Contents → ℕ → WinKey
-key_at p hop = record { src = p.src; ts = p.ts; hop = hop }
-
--- what a window with these entries tells of a key at a moment
-unfoldable pub told_of : Profile → Entries → ℕ → WinKey → Told
-told_of profile entries now key = record { first = seen profile entries now key; live = count profile entries now key.src.asn }
 
 -- What the router of an AS remembers of an event: the packets of levels 1 to 3 that it accepted, by the hop at which each came to
 -- it, with the step.

@@ -3,6 +3,7 @@ use Rattle.std.specs.Prelude.{◌≡◌, ℕ, ◌≤◌, Bool, ◌&&◌, ◌==�
 use Rattle.std.specs.Map.{lookup}
 use Rattle.epic_num.specs.Moments.{is_live}
 use Rattle.epic_num.specs.Same.{same_as, same_host}
+use Rattle.epic_num.specs.Windows.{Told}
 use Rattle.epic_num.specs.declared.name.AsId.{AsId}
 use Rattle.epic_num.specs.declared.profile.Profile.{Profile}
 use Rattle.epic_window.specs.declared.key.WinKey.{WinKey}
@@ -21,6 +22,10 @@ seen profile entries now key = lookup (λ k. same_win_key key k && is_live profi
 -- how many live entries have a source in this AS
 unfoldable pub count : Profile → Entries → ℕ → AsId → ℕ
 count profile entries now asn = count_by (λ e. same_as e.0.src.asn asn && is_live profile e.0.ts now) entries
+
+-- what a window with these entries tells of a key at a moment
+unfoldable pub told_of : Profile → Entries → ℕ → WinKey → Told
+told_of profile entries now key = record { first = seen profile entries now key; live = count profile entries now key.src.asn }
 
 -- two windows hold the same from a moment on: the same is live in both at every later moment
 pub record Same (profile : Profile) (from : ℕ) (entries others : Entries) : Type 0 where

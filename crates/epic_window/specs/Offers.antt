@@ -1,7 +1,6 @@
 -- What a replay window answers to an offer, and what the offer leaves.
 use Rattle.std.specs.Prelude.{◌≡◌, ℕ, ◌+◌, ◌≤◌, nat_le, if◌then◌else◌, ◌∷◌, Option, Some, None}
 use Rattle.epic_num.specs.declared.profile.Profile.{Profile}
-use Rattle.epic_num.specs.Windows.{Told}
 use Rattle.epic_window.specs.Entries.{Entries, Same, seen, count}
 use Rattle.epic_window.specs.declared.key.WinKey.{WinKey}
 use Rattle.epic_window.specs.declared.offer.Offer.{Offer}
@@ -14,10 +13,6 @@ pub record Held : Type 0 where
   pub entries : Entries
   pub latest : ℕ
   pub spare : ℕ
-
--- what the window tells of a packet with this key at a moment
-unfoldable pub told : Held → WinKey → ℕ → Told
-told w key now = record { first = seen w.profile w.entries now key; live = count w.profile w.entries now key.src.asn }
 
 -- the answer where so many entries of the source's AS are live, by the turn of the live entry with the key
 abbrev pub answer_at : Profile → ℕ → Option ℕ → Offer
