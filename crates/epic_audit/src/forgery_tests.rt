@@ -4,7 +4,7 @@ ghost use Rattle.std.specs.Prelude.{◌≡◌};
 ghost use Rattle.epic_audit.specs.ForgedText.{fits_level, has_form};
 
 use super::*;
-use epic_num::{AsId, ForgedKind, Forgery, HostId, KeyName, Level, is_tagged, level_of};
+use epic_num::{AsId, ForgedKind, Forgery, HostId, KeyName, is_tagged, is_updated};
 use epic_topo::{Topology, read_topology};
 use epic_view::PacketRef;
 use std::alloc::Global;
@@ -120,7 +120,7 @@ fn has_form(forgery: &Forgery) -> bool
 }
 
 /// Whether packets that begin so can have such a forgery.
-#[tactic(auto, unfolding(crate::specs::ForgedText::fits_level, epic_num::specs::Levels::level_number))]
+#[tactic(auto, unfolding(crate::specs::ForgedText::fits_level))]
 fn fits_level(kind: ForgedKind, first: u8) -> bool
     ensures { result ≡ fits_level kind first }
 {
@@ -128,7 +128,7 @@ fn fits_level(kind: ForgedKind, first: u8) -> bool
         ForgedKind::Issue => true,
         ForgedKind::Field => is_tagged(first),
         ForgedKind::Dest => is_tagged(first),
-        ForgedKind::Update => is_tagged(first) && level_of(first) == Level::L3,
+        ForgedKind::Update => is_tagged(first) && is_updated(first),
     }
 }
 
