@@ -22,18 +22,18 @@ either true x = refl
 either false x = refl
 
 -- an empty set has no fetch
-pub none_fetched : (set : FetchSet) → IsEmpty set → IsNone set
+pub none_fetched : (set : FetchSet) → IsEmpty set → IsNone (is_fetched set)
 unfolding is_fetched
 none_fetched set empty f = rw empty refl
 
 -- a set with the same keys has the same fetches
-pub same_fetched : (old new : FetchSet) → IsUnchanged old new → Keeps old new
+pub same_fetched : (old new : FetchSet) → IsUnchanged old new → Keeps (is_fetched old) (is_fetched new)
 unfolding is_fetched
 same_fetched old new same f = rw same refl
 
 -- a set into which a fetch was put has it besides
 pub added_fetch : (old new : FetchSet) (fetch : Fetch)
-    → Updates fetch_cmp old new (fetch.source.0, fetch.owner.0, fetch.epoch) true → Adds old new fetch
+    → Updates fetch_cmp old new (fetch.source.0, fetch.owner.0, fetch.epoch) true → Adds (is_fetched old) (is_fetched new) fetch
 unfolding is_fetched
 added_fetch old new fetch updates f =
     updates.0 (f.source.0, f.owner.0, f.epoch)

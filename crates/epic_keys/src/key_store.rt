@@ -36,15 +36,23 @@ impl Model for KeyStore {
 }
 
 impl KeyStore {
-    ghost use Rattle.epic_keys.specs.Fetches.{Fetches, IsNone, known_key};
+    ghost use Rattle.epic_keys.specs.Fetches.{Fetches, IsNone, is_fetched, is_known, known_key};
 
     /// A store in which nothing was fetched.
     pub fn new(alloc: Global) -> KeyStore
-        ensures { IsNone result }
+        ensures { IsNone (is_fetched result) }
     {
         KeyStore {
             fetches: BTreeSet::new(alloc),
         }
+    }
+
+    /// Whether hosts of the AS `source` can make the keys of the AS `owner` for an epoch: it is their own, or has fetched them.
+    #[tactic(auto, unfolding(crate::specs::Fetches::is_known, crate::specs::Fetches::is_fetched))]
+    pub fn is_known(&self, source: AsId, owner: AsId, epoch: u64) -> bool
+        ensures { result ≡ is_known (is_fetched self.now) (record { source = source; owner = owner; epoch = epoch }) }
+    {
+        same_as(owner, source) || self.fetches.contains(&(source.0, owner.0, epoch))
     }
 
     /// The AS `source` gets the keys of the AS `owner` for an epoch. Both are in the topology.
@@ -57,7 +65,7 @@ impl KeyStore {
     ) -> Result<Fetched, OutOfMemory>
         requires source { IsTrue (has topo.now source) }
         requires owner { IsTrue (has topo.now owner) }
-        ensures { Fetches self.old self.new (record { source = source; owner = owner; epoch = epoch }) result }
+        ensures { Fetches (is_fetched self.old) (is_fetched self.new) (record { source = source; owner = owner; epoch = epoch }) result }
     {
         if self.is_known(source, owner, epoch) {
             return Ok(Fetched::Known);
@@ -80,7 +88,7 @@ impl KeyStore {
     ) -> Result<[u8; 16], NoKey>
         requires source { IsTrue (has topo.now src.asn) }
         requires owner { IsTrue (has topo.now owner) }
-        ensures { result ≡ known_key topo.now self.now (record { source = src.asn; owner = owner; epoch = epoch }) (Field owner src epoch) }
+        ensures { result ≡ known_key topo.now (is_fetched self.now) (record { source = src.asn; owner = owner; epoch = epoch }) (Field owner src epoch) }
     {
         self.known_key(
             topo,
@@ -107,7 +115,7 @@ impl KeyStore {
     ) -> Result<[u8; 16], NoKey>
         requires source { IsTrue (has topo.now src.asn) }
         requires owner { IsTrue (has topo.now dst.asn) }
-        ensures { result ≡ known_key topo.now self.now (record { source = src.asn; owner = dst.asn; epoch = epoch }) (Dest dst src epoch) }
+        ensures { result ≡ known_key topo.now (is_fetched self.now) (record { source = src.asn; owner = dst.asn; epoch = epoch }) (Dest dst src epoch) }
     {
         self.known_key(
             topo,
@@ -120,16 +128,8 @@ impl KeyStore {
 }
 
 impl KeyStore {
-    ghost use Rattle.epic_keys.specs.Fetches.{is_known as spec_is_known, known_key as spec_known_key};
+    ghost use Rattle.epic_keys.specs.Fetches.{is_fetched, known_key as spec_known_key};
     ghost use Rattle.epic_keys.specs.Keys.{owner as spec_owner};
-
-    // Whether hosts of the AS `source` can make the keys of `owner` for an epoch.
-    #[tactic(auto, unfolding(crate::specs::Fetches::is_known, crate::specs::Fetches::is_fetched))]
-    fn is_known(&self, source: AsId, owner: AsId, epoch: u64) -> bool
-        ensures { result ≡ spec_is_known self.now (record { source = source; owner = owner; epoch = epoch }) }
-    {
-        same_as(owner, source) || self.fetches.contains(&(source.0, owner.0, epoch))
-    }
 
     // The key of a name whose owner is `owner`, where it is known.
     #[tactic(auto, unfolding(crate::specs::Fetches::known_key))]
@@ -142,7 +142,7 @@ impl KeyStore {
         name: &KeyName,
     ) -> Result<[u8; 16], NoKey>
         requires { IsTrue (has topo.now (spec_owner name.now)) }
-        ensures { result ≡ spec_known_key topo.now self.now (record { source = source; owner = owner; epoch = epoch }) name.now }
+        ensures { result ≡ spec_known_key topo.now (is_fetched self.now) (record { source = source; owner = owner; epoch = epoch }) name.now }
     {
         if self.is_known(source, owner, epoch) {
             Ok(derive(topo, name))
