@@ -44,11 +44,12 @@ use Rattle.epic_audit.specs.Clauses.{higher, lower}
 use Rattle.epic_audit.specs.ForgedText.{has_form, fits_level}
 use Rattle.epic_audit.specs.Kept.{Kept, PassesKept}
 use Rattle.epic_audit.specs.Verdicts.{hop_lines, hop_verdict, broken, broken_between, broken_chain, parent_name}
+use Rattle.epic_keys.specs.Fetches.{is_known}
 use Rattle.epic_keys.specs.Keys.{owner}
 use Rattle.epic_text.specs.Report.{IsToldAnswer, Shows, issued_name}
 use Rattle.epic_num.specs.Chains.{no_name}
 use Rattle.epic_text.specs.VerdictText.{IsTellable}
-use Rattle.epic_world.specs.State.{State, store_in, rolls, is_known_in}
+use Rattle.epic_world.specs.State.{State, store_in, rolls, is_fetched_in}
 use Rattle.epic_world.specs.Stepped.{answered, refused, recorded}
 use Rattle.epic_world.specs.Turning.{passed, turned_at, turned_by, accepted_at}
 use Rattle.epic_world.specs.Next.{next, next_at, next_originate, next_extend, next_fetch, next_paths, next_turn, issued, most_paths, is_taken}
@@ -253,7 +254,7 @@ told t s (command.Originate a out exp) emissions before after taken = issued_tol
 told t s (command.Extend parent out exp) emissions before after taken = issue_told t s (extended t (store_in t s.history.events) parent out exp s.moment) [] after.issues
 told t s (command.Fetch source of epoch) emissions before after taken =
     fetched_told t s (issues_in (next_fetch t s source of epoch).state.history.events) []
-    (not (has t source)) (not (has t of)) (is_known_in s.history.events (record { source = source; owner = of; epoch = epoch }))
+    (not (has t source)) (not (has t of)) (is_known (is_fetched_in s.history.events) (record { source = source; owner = of; epoch = epoch }))
     (UnknownAs source) (UnknownAs of) (event.Fetch (s.steps + 1) source of epoch)
 told t s (command.Paths from to) emissions before after taken =
     let paths = all_lawful (segments (beacons_in t (issues_in s.history.events))) from to in

@@ -1,5 +1,5 @@
 //! What the ledger says of a hop that a router accepted.
-ghost use Rattle.std.specs.Prelude.{◌≡◌, ◌<◌, ◌↔◌, true, IsTrue};
+ghost use Rattle.std.specs.Prelude.{◌≡◌, ◌<◌, ◌↔◌, IsTrue};
 ghost use Rattle.epic_layout.specs.Contents.{hop_count};
 ghost use Rattle.epic_topo.specs.Network.{has};
 ghost use Rattle.epic_num.specs.declared.key_name.Holder.TheVariants.{As};
@@ -155,8 +155,8 @@ pub fn verdict_hop(
     requires kept { Kept topo.now (facts_of ledger.now.history) }
     requires known { IsTrue (has topo.now a) }
     requires within { hop < hop_count packet.now }
-    requires field_right { has_field topo.now (hop_name a generation packet.now hop) packet.now hop ≡ true }
-    requires link_right { has_link topo.now (hop_name a generation packet.now hop) packet.now hop ≡ true }
+    requires field_right { IsTrue (has_field topo.now (hop_name a generation packet.now hop) packet.now hop) }
+    requires link_right { IsTrue (has_link topo.now (hop_name a generation packet.now hop) packet.now hop) }
     ensures verdict { result ≡ verdicts.hop_verdict topo.now (facts_of ledger.now.history) (hop_name a generation packet.now hop) packet.now hop }
     ensures exact { IsProved result ↔ HopOk (facts_of ledger.now.history) (hop_name a generation packet.now hop) packet.now hop }
     ensures holds { Holds topo.now (facts_of ledger.now.history) packet.now (AtHop a generation hop) result }

@@ -54,11 +54,16 @@ fn hops_are_issued_or_refused(rt: HostRuntime) -> Result<(), Fail> {
 
 #[test]
 fn a_roll_raises_the_generation(rt: HostRuntime) -> Result<(), Fail> {
+    let topo = topology(&rt, rt.alloc())?;
     let mut store = Beacons::new(rt.alloc());
+    assert!(rt; topo.has(CORE));
+    assert!(rt; store.originate(&topo, CORE, 2, 63, NOW)? == 1);
     assert!(rt; store.generation(FIRST) == 0);
     assert!(rt; store.roll(FIRST)? == 1);
-    assert!(rt; store.generation(FIRST) == 1);
     assert!(rt; store.generation(SECOND) == 0);
+    // What is issued after the roll has the new generation.
+    assert!(rt; store.extend(&topo, 1, 2, 63, NOW)? == 2);
+    assert!(rt; store.issue(2).is_some_and(|(name, _)| name.generation == 1));
     Ok(())
 }
 

@@ -1,5 +1,5 @@
 //! Edits of a packet's bytes.
-ghost use Rattle.std.specs.Prelude.{◌≡◌, ◌+◌, ◌<◌, ◌≤◌, length, true, None, slice_set};
+ghost use Rattle.std.specs.Prelude.{◌≡◌, ◌+◌, ◌<◌, ◌≤◌, length, None, slice_set, IsTrue};
 ghost use Rattle.epic_num.specs.Levels.{width_of, is_first_byte, is_tagged};
 ghost use Rattle.epic_layout.specs.Pieces.{byte};
 ghost use Rattle.epic_layout.specs.Contents.{IsBytes, with_field, with_dest_field, advanced};
@@ -45,7 +45,7 @@ pub fn set_field(bytes: &mut [u8], frame: Frame, hop: u8, field: &Field)
 #[tactic(auto, using(epic_layout::proofs::Fields::dest_fields))]
 pub fn set_dest_field(bytes: &mut [u8], frame: Frame, field: &[u8; DEST_LEN])
     requires view { IsView bytes.old frame }
-    requires tagged { is_tagged (byte bytes.old 0) ≡ true }
+    requires tagged { IsTrue (is_tagged (byte bytes.old 0)) }
     ensures view { IsView bytes.new frame }
     ensures bytes { bytes.new ≡ with_piece bytes.old (dest_offset bytes.old) field.now }
     ensures packet { parse bytes.new ≡ with_dest_field (parse bytes.old) field.now }

@@ -17,7 +17,7 @@ pub struct PacketView<'a> {
 
 #[tactic(auto, using(epic_layout::proofs::Parsed::parsed), unfolding(epic_layout::specs::Layout::parse))]
 impl<'a> PacketView<'a> {
-    ghost use Rattle.std.specs.Prelude.{◌≡◌, ◌+◌, ◌<◌, ◌≤◌, true, Ok, None, slice_set};
+    ghost use Rattle.std.specs.Prelude.{◌≡◌, ◌+◌, ◌<◌, ◌≤◌, Ok, None, slice_set, IsTrue};
     ghost use Rattle.epic_num.specs.Levels.{width_of, is_first_byte, is_tagged};
     ghost use Rattle.epic_layout.specs.Contents as contents;
     ghost use Rattle.epic_layout.specs.Contents.{hop_count, field_bytes};
@@ -59,7 +59,7 @@ impl<'a> PacketView<'a> {
 
     /// Puts a destination field in the place of the packet's, which has level 2 or 3.
     pub fn set_dest_field(&mut self, field: &[u8; DEST_LEN])
-        requires { is_tagged (packet_of self.old).first ≡ true }
+        requires { IsTrue (is_tagged (packet_of self.old).first) }
         ensures same_reference { self.new.bytes.ghost_name ≡ self.old.bytes.ghost_name }
         ensures packet { packet_of self.new ≡ contents.with_dest_field (packet_of self.old) field.now }
         ensures spelled { bytes_of self.new ≡ spelling (packet_of self.new) }

@@ -11,7 +11,7 @@ use Rattle.epic_num.specs.declared.answer.Refusal.TheVariants.{Beacon as BeaconR
 use Rattle.epic_num.specs.declared.path_ref.PathRef.{PathRef}
 use Rattle.epic_topo.specs.Network.{Network, has}
 use Rattle.epic_fields.specs.Issues.{IssuesKept}
-use Rattle.epic_keys.specs.Fetches.{Fetch, FetchSet, is_known}
+use Rattle.epic_keys.specs.Fetches.{Fetch, is_known}
 use Rattle.epic_beacon.specs.declared.beacon.Beacon.{Beacon}
 use Rattle.epic_beacon.specs.Issuing.{Issues, originated, extended}
 use Rattle.epic_beacon.specs.Kinds.{KindsKept}
@@ -26,7 +26,7 @@ use Rattle.epic_ledger.specs.Lawful.{IsLawful}
 use Rattle.epic_ledger.specs.declared.event.Event.TheVariants as event
 use Rattle.epic_audit.specs.Events.{EventsKeep}
 use Rattle.epic_ledger.specs.OneMore.{with_event}
-use Rattle.epic_world.specs.State.{State, store_in, is_known_in}
+use Rattle.epic_world.specs.State.{State, store_in, is_fetched_in}
 use Rattle.epic_world.specs.Stepped.{Steps, recorded, answered, refused}
 use Rattle.epic_world.specs.Next.{issued, next_originate, next_extend, next_fetch, next_paths, found}
 use Rattle.epic_world.specs.Refining.{Refines}
@@ -35,10 +35,10 @@ use Rattle.epic_world.proofs.Refined.{issued as issue_refines}
 
 -- ---- what the objects tell
 
-module _ (t : Network) (store : Store) (fetches : FetchSet) (moment n : ℕ) (h : History) (r : Refines t store fetches moment n h) where
+module _ (t : Network) (store : Store) (fetches : Fetch → Bool) (moment n : ℕ) (h : History) (r : Refines t store fetches moment n h) where
   -- a key is known to the store as to the ledger
-  pub same_known : (f : Fetch) → is_known fetches f ≡ is_known_in h.events f
-  unfolding is_known is_known_in
+  pub same_known : (f : Fetch) → is_known fetches f ≡ is_known (is_fetched_in h.events) f
+  unfolding is_known
   same_known f = ap (λ b. same_as f.owner f.source || b) (r.fetched f)
 
   beacons_are : store.beacons ≡ beacons_in t (issues_in h.events)
@@ -122,13 +122,13 @@ abbrev fetch_of : AsId → AsId → ℕ → Fetch
 fetch_of source owner epoch = record { source = source; owner = owner; epoch = epoch }
 
 pub new_fetch : (t : Network) (s : State) (source owner : AsId) (epoch : ℕ) → has t source ≡ true → has t owner ≡ true
-    → is_known_in s.history.events (fetch_of source owner epoch) ≡ false
+    → is_known (is_fetched_in s.history.events) (fetch_of source owner epoch) ≡ false
     → next_fetch t s source owner epoch ≡ recorded s (event.Fetch (s.steps + 1) source owner epoch) Fetched
 unfolding next_fetch
 new_fetch t s source owner epoch h k unknown = rw (h, k, unknown) refl
 
 pub known_fetch : (t : Network) (s : State) (source owner : AsId) (epoch : ℕ) → has t source ≡ true → has t owner ≡ true
-    → is_known_in s.history.events (fetch_of source owner epoch) ≡ true → next_fetch t s source owner epoch ≡ answered s Known
+    → is_known (is_fetched_in s.history.events) (fetch_of source owner epoch) ≡ true → next_fetch t s source owner epoch ≡ answered s Known
 unfolding next_fetch
 known_fetch t s source owner epoch h k known = rw (h, k, known) refl
 

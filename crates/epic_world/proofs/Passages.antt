@@ -8,7 +8,7 @@ use Rattle.std.proofs.lemmas.List.Sums.{sum_by-cons, sum_by-append}
 use Rattle.epic_num.specs.declared.name.AsId.{AsId}
 use Rattle.epic_num.specs.declared.passed.Place.{Place}
 use Rattle.epic_topo.specs.Network.{Network}
-use Rattle.epic_keys.specs.Fetches.{FetchSet, same_fetch}
+use Rattle.epic_keys.specs.Fetches.{Fetch, same_fetch}
 use Rattle.epic_fields.specs.Tags.{link}
 use Rattle.epic_layout.specs.Contents.{Contents, hop_count}
 use Rattle.epic_layout.specs.Layout.{parse}
@@ -89,7 +89,7 @@ emitted_more es x =
     let one = sum_by-cons (λ (e : Emission). length e.bytes) x [] in
     omega (arith, joined, one)
 
-pub passed_on : (t : Network) (store : Store) (fetches : FetchSet) (moment n : ℕ) (h : History) (a : AsId) (j generation : ℕ) (due : Place) (bytes : List ℕ)
+pub passed_on : (t : Network) (store : Store) (fetches : Fetch → Bool) (moment n : ℕ) (h : History) (a : AsId) (j generation : ℕ) (due : Place) (bytes : List ℕ)
     → Refines t store fetches moment n h → Kept t (facts_of (with_pass h (n + 1) a j generation due bytes))
     → emitted h.emissions + length bytes ≤ most_emitted
     → Refines t store fetches moment (n + 1) (with_pass h (n + 1) a j generation due bytes)

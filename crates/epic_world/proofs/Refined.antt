@@ -12,7 +12,7 @@ use Rattle.epic_num.specs.declared.moment.TheConstants.{MAX_MOMENT}
 use Rattle.epic_num.specs.declared.name.AsId.{AsId}
 use Rattle.epic_num.specs.Same.{same_as}
 use Rattle.epic_topo.specs.Network.{Network}
-use Rattle.epic_keys.specs.Fetches.{Fetch, FetchSet, IsNone, Keeps, Adds, is_fetched, same_fetch}
+use Rattle.epic_keys.specs.Fetches.{Fetch, IsNone, Keeps, Adds, same_fetch}
 use Rattle.epic_beacon.specs.Kinds.{KindsKept}
 use Rattle.epic_beacon.specs.Store.{Store, no_beacons}
 use Rattle.epic_beacon.specs.Told.{beacons_after, beacons_in}
@@ -68,10 +68,10 @@ same_store t events e no_issue no_roll i = record {
 }
 
 -- what every event keeps, and what the world's objects have to be after it
-grown : (t : Network) (old new : Store) (before after : FetchSet) (moment n : ℕ) (h : History) (e : Event)
+grown : (t : Network) (old new : Store) (before after : Fetch → Bool) (moment n : ℕ) (h : History) (e : Event)
     → Refines t old before moment n h → Kept t (facts_of (with_event h e)) → step_of e ≤ n + 1
     → new ≡ store_in t (h.events ++ e ∷ []) → KindsKept t new.beacons
-    → ((f : Fetch) → is_fetched after f ≡ is_fetched_in (h.events ++ e ∷ []) f)
+    → ((f : Fetch) → after f ≡ is_fetched_in (h.events ++ e ∷ []) f)
     → Refines t new after moment (n + 1) (with_event h e)
 grown t old new before after moment n h e r kept step stored kinds fetched = record {
   kept = kept;
@@ -88,7 +88,7 @@ grown t old new before after moment n h e r kept step stored kinds fetched = rec
 -- ---- each step
 
 -- nothing happened
-pub counted : (t : Network) (store : Store) (fetches : FetchSet) (old moment n : ℕ) (h : History)
+pub counted : (t : Network) (store : Store) (fetches : Fetch → Bool) (old moment n : ℕ) (h : History)
     → Refines t store fetches old n h → moment ≤ MAX_MOMENT → Refines t store fetches moment (n + 1) h
 counted t store fetches old moment n h r fits = record {
   kept = r.kept;
@@ -103,7 +103,7 @@ counted t store fetches old moment n h r fits = record {
 }
 
 -- the same was fetched
-pub known : (t : Network) (store : Store) (before after : FetchSet) (moment n : ℕ) (h : History)
+pub known : (t : Network) (store : Store) (before after : Fetch → Bool) (moment n : ℕ) (h : History)
     → Refines t store before moment n h → Keeps before after → Refines t store after moment n h
 known t store before after moment n h r same = record {
   kept = r.kept;
@@ -135,7 +135,7 @@ generations_are t events s e = ap (λ (r : Store). r.generations) e
 pub rolled_as : (t : Network) (events : List Event) (s : Store) (a : AsId) → s ≡ store_in t events → s.generations a ≡ rolls events a
 rolled_as t events s a e = ap (λ g. g a) (generations_are t events s e)
 
-pub issued : (t : Network) (old new : Store) (fetches : FetchSet) (moment n number : ℕ) (h : History) (i : Issue)
+pub issued : (t : Network) (old new : Store) (fetches : Fetch → Bool) (moment n number : ℕ) (h : History) (i : Issue)
     → Refines t old fetches moment n h → Kept t (facts_of (with_event h (event.Issue (n + 1) number i.name i.parent)))
     → new ≡ record { beacons = beacons_in t (issues_in h.events ++ i ∷ []); generations = old.generations } → KindsKept t new.beacons
     → Refines t new fetches moment (n + 1) (with_event h (event.Issue (n + 1) number i.name i.parent))
@@ -170,7 +170,7 @@ any_more f g rows =
     ∙ ap (λ b. b || list_any (same_fetch f) rows) (same_fetch_flip f g))
 
 -- keys were fetched
-pub fetched : (t : Network) (store : Store) (before after : FetchSet) (moment n : ℕ) (h : History) (g : Fetch)
+pub fetched : (t : Network) (store : Store) (before after : Fetch → Bool) (moment n : ℕ) (h : History) (g : Fetch)
     → Refines t store before moment n h → Kept t (facts_of (with_event h (event.Fetch (n + 1) g.source g.owner g.epoch))) → Adds before after g
     → Refines t store after moment (n + 1) (with_event h (event.Fetch (n + 1) g.source g.owner g.epoch))
 unfolding as_issue as_fetch is_roll step_of
@@ -193,7 +193,7 @@ nothing_emitted : emitted [] ≤ most_emitted
 unfolding emitted
 nothing_emitted = omega arith
 
-pub begun : (t : Network) (store : Store) (fetches : FetchSet) (h : History)
+pub begun : (t : Network) (store : Store) (fetches : Fetch → Bool) (h : History)
     → Kept t (facts_of (record { events = []; emissions = [] })) → store ≡ no_beacons → KindsKept t store.beacons
     → IsNone fetches → h.events ≡ [] → h.emissions ≡ [] → Refines t store fetches 0 0 h
 begun t store fetches h kept empty kinds none events emissions =

@@ -12,7 +12,7 @@ use Rattle.epic_num.specs.declared.name.AsId.{AsId}
 use Rattle.epic_topo.specs.Lawful.{LinksLeadBack}
 use Rattle.epic_topo.specs.Network.{Network, has}
 use Rattle.epic_fields.specs.Issues.{IssuesKept}
-use Rattle.epic_keys.specs.Fetches.{Fetch}
+use Rattle.epic_keys.specs.Fetches.{Fetch, is_known}
 use Rattle.epic_beacon.specs.declared.beacon.Beacon.{Beacon}
 use Rattle.epic_beacon.specs.Issuing.{originated, extended}
 use Rattle.epic_beacon.specs.Laws.{IsIssued}
@@ -27,7 +27,7 @@ use Rattle.epic_ledger.specs.Lawful.{Fits, IsEmission, IsLast}
 use Rattle.epic_ledger.specs.declared.event.Event.{Event}
 use Rattle.epic_ledger.specs.declared.event.Event.TheVariants as event
 use Rattle.epic_audit.specs.Events.{EventFits, EventsKeep, EventsAreLawful, NothingIsKept}
-use Rattle.epic_world.specs.State.{State, store_in, is_known_in}
+use Rattle.epic_world.specs.State.{State, store_in, is_fetched_in}
 use Rattle.epic_world.specs.Stepped.{answered, refused, recorded}
 use Rattle.epic_world.specs.Next.{issued, next_at, next_originate, next_extend, next_fetch, next_paths, found}
 use Rattle.epic_world.specs.Sound.{IsSound, StartIsSound}
@@ -96,7 +96,7 @@ module _ (keep : EventsKeep) (still : EventsAreLawful) where
 
   pub fetch_sound : (t : Network) (s : State) (source owner : AsId) (epoch : ℕ) → IsSound t s → IsSound t (next_fetch t s source owner epoch).state
   unfolding next_fetch step_of
-  fetch_sound t s source owner epoch h = by (has t source) (has t owner) (is_known_in s.history.events f)
+  fetch_sound t s source owner epoch h = by (has t source) (has t owner) (is_known (is_fetched_in s.history.events) f)
     where
       f : Fetch
       f = record { source = source; owner = owner; epoch = epoch }

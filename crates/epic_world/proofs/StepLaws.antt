@@ -11,7 +11,7 @@ use Rattle.epic_num.specs.declared.name.AsId.{AsId}
 use Rattle.epic_num.specs.declared.path_ref.PathRef.{PathRef}
 use Rattle.epic_topo.specs.Lawful.{IsTopology, LinksLeadBack}
 use Rattle.epic_topo.specs.Network.{Network, has}
-use Rattle.epic_keys.specs.Fetches.{Fetch}
+use Rattle.epic_keys.specs.Fetches.{Fetch, is_known}
 use Rattle.epic_beacon.specs.declared.beacon.Beacon.{Beacon}
 use Rattle.epic_beacon.specs.Issuing.{originated, extended}
 use Rattle.epic_beacon.specs.Segments.{segments}
@@ -22,7 +22,7 @@ use Rattle.epic_ledger.specs.Facts.{facts_of, issues_in}
 use Rattle.epic_ledger.specs.declared.event.Event.TheVariants as event
 use Rattle.epic_audit.specs.Events.{EventsKeep, EventsAreLawful, EmissionsAddNothing, EmissionsAreLawful, LawfulPackets}
 use Rattle.epic_audit.specs.Laws.{HopVerdictsHold}
-use Rattle.epic_world.specs.State.{State, store_in, is_known_in}
+use Rattle.epic_world.specs.State.{State, store_in, is_fetched_in}
 use Rattle.epic_world.specs.Stepped.{answered, refused, recorded}
 use Rattle.epic_world.specs.Next.{next, issued, next_at, next_originate, next_extend, next_fetch, next_paths, found}
 use Rattle.epic_world.specs.Run.{done_by, run_from, state_after}
@@ -54,7 +54,7 @@ extend_quiet t s parent out exp = issued_quiet s (extended t (store_in t s.histo
 
 fetch_quiet : (t : Network) (s : State) (source owner : AsId) (epoch : ℕ) → HasNoVerdict (next_fetch t s source owner epoch).answer
 unfolding next_fetch
-fetch_quiet t s source owner epoch = by (has t source) (has t owner) (is_known_in s.history.events f)
+fetch_quiet t s source owner epoch = by (has t source) (has t owner) (is_known (is_fetched_in s.history.events) f)
   where
     f : Fetch
     f = record { source = source; owner = owner; epoch = epoch }

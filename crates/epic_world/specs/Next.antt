@@ -9,6 +9,7 @@ use Rattle.epic_num.specs.declared.moment.TheConstants.{MAX_MOMENT}
 use Rattle.epic_num.specs.declared.name.AsId.{AsId}
 use Rattle.epic_num.specs.declared.path_ref.PathRef.{PathRef}
 use Rattle.epic_topo.specs.Network.{Network, has}
+use Rattle.epic_keys.specs.Fetches.{is_known}
 use Rattle.epic_beacon.specs.declared.beacon.Beacon.{Beacon}
 use Rattle.epic_beacon.specs.Issuing.{originated, extended}
 use Rattle.epic_beacon.specs.Segments.{segments}
@@ -16,7 +17,7 @@ use Rattle.epic_beacon.specs.Told.{beacons_in}
 use Rattle.epic_path.specs.Routes.{all_lawful}
 use Rattle.epic_ledger.specs.Facts.{issues_in}
 use Rattle.epic_ledger.specs.declared.event.Event.TheVariants as event
-use Rattle.epic_world.specs.State.{State, store_in, is_known_in}
+use Rattle.epic_world.specs.State.{State, store_in, is_fetched_in}
 use Rattle.epic_world.specs.Turning.{turned_at}
 use Rattle.epic_world.specs.Stepped.{Stepped, answered, refused, recorded}
 
@@ -47,7 +48,7 @@ unfoldable pub next_fetch : Network → State → AsId → AsId → ℕ → Step
 next_fetch t s source owner epoch =
     if not (has t source) then refused s (UnknownAs source)
     else if not (has t owner) then refused s (UnknownAs owner)
-    else if is_known_in s.history.events (record { source = source; owner = owner; epoch = epoch }) then answered s Known
+    else if is_known (is_fetched_in s.history.events) (record { source = source; owner = owner; epoch = epoch }) then answered s Known
     else recorded s (event.Fetch (s.steps + 1) source owner epoch) Fetched
 
 -- the greatest number of paths that are answered

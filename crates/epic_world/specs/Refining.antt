@@ -1,9 +1,9 @@
 -- Private: serves proofs of this crate alone; no public contract cites it.
 -- How the objects of a world stand for its state.
-use Rattle.std.specs.Prelude.{◌≡◌, ℕ, ◌≤◌, length}
+use Rattle.std.specs.Prelude.{◌≡◌, ℕ, ◌≤◌, Bool, length}
 use Rattle.epic_num.specs.declared.moment.TheConstants.{MAX_MOMENT}
 use Rattle.epic_topo.specs.Network.{Network}
-use Rattle.epic_keys.specs.Fetches.{Fetch, FetchSet, is_fetched}
+use Rattle.epic_keys.specs.Fetches.{Fetch}
 use Rattle.epic_beacon.specs.Kinds.{KindsKept}
 use Rattle.epic_beacon.specs.Store.{Store}
 use Rattle.epic_ledger.specs.History.{History, emitted}
@@ -15,11 +15,11 @@ use Rattle.epic_world.specs.Turning.{most_emitted}
 
 -- The store of beacons and that of fetched keys hold what the ledger tells, the ledger is kept, and the counts are bounded
 -- by the number of steps.
-pub record Refines (t : Network) (store : Store) (fetches : FetchSet) (moment steps : ℕ) (h : History) : Type 0 where
+pub record Refines (t : Network) (store : Store) (fetches : Fetch → Bool) (moment steps : ℕ) (h : History) : Type 0 where
   pub kept : Kept t (facts_of h)
   pub stored : store ≡ store_in t h.events
   pub kinds : KindsKept t store.beacons
-  pub fetched : (f : Fetch) → is_fetched fetches f ≡ is_fetched_in h.events f
+  pub fetched : (f : Fetch) → fetches f ≡ is_fetched_in h.events f
   pub moment_fits : moment ≤ MAX_MOMENT
   pub last : IsLast h.events steps
   pub few_events : length h.events ≤ steps

@@ -1,5 +1,5 @@
 -- The state of a world: the present moment, how many steps there were, and the ledger. All else is read from the ledger.
-use Rattle.std.specs.Prelude.{ℕ, Bool, false, ◌||◌, List, [], filter_map, count_by, Option, None, Some}
+use Rattle.std.specs.Prelude.{ℕ, Bool, false, List, [], filter_map, count_by, Option, None, Some}
 use Rattle.std.specs.List.{list_any}
 use Rattle.epic_num.specs.Same.{same_as}
 use Rattle.epic_num.specs.declared.name.AsId.{AsId}
@@ -49,7 +49,3 @@ as_fetch _ = None
 -- whether keys were fetched
 abbrev pub is_fetched_in : List Event → Fetch → Bool
 is_fetched_in events f = list_any (same_fetch f) (filter_map as_fetch events)
-
--- the source's hosts can make the owner's keys of the epoch
-unfoldable pub is_known_in : List Event → Fetch → Bool
-is_known_in events f = same_as f.owner f.source || is_fetched_in events f

@@ -28,6 +28,7 @@ pub struct World {
 }
 
 impl Model for World {
+    ghost use Rattle.epic_keys.specs.Fetches.{is_fetched};
     ghost use Rattle.epic_beacon.specs.Store.{store_of};
     ghost use Rattle.epic_world.specs.Refining.{Refines};
     ghost use Rattle.epic_world.specs.State.{Standing};
@@ -36,7 +37,7 @@ impl Model for World {
 
     ghost view = { λ w. record { network = w.topo; state = record { moment = w.moment; steps = w.steps; history = w.ledger.history } } };
 
-    ghost invariant = { λ w. Refines w.topo (store_of w.beacons) w.keys w.moment w.steps w.ledger.history };
+    ghost invariant = { λ w. Refines w.topo (store_of w.beacons) (is_fetched w.keys) w.moment w.steps w.ledger.history };
 }
 
 impl World {

@@ -15,6 +15,7 @@ use Rattle.epic_ledger.specs.Facts.{facts_of}
 use Rattle.epic_ledger.specs.Lawful.{IsEmission}
 use Rattle.epic_ledger.proofs.Growing.{spelled_in}
 use Rattle.epic_audit.specs.Verdicts.{hop_verdict}
+use Rattle.epic_keys.specs.Fetches.{is_fetched}
 use Rattle.epic_beacon.specs.Store.{store_of}
 use Rattle.epic_world.specs.Next.{next_turn}
 use Rattle.epic_world.specs.Passing.{with_pass}
@@ -127,7 +128,7 @@ invariant_of-self-in-Some c =
     let left = bytes_after c.turned-answer.result c.args.bytes.now in
     let g = c.generation-generation.result in
     let q = sent d in
-    let r = subst (Refines w.topo (store_of w.beacons) w.keys w.moment w.steps) (sym c.reserve.ensures.history) c.self.invariant in
+    let r = subst (Refines w.topo (store_of w.beacons) (is_fetched w.keys) w.moment w.steps) (sym c.reserve.ensures.history) c.self.invariant in
     let history : c.record_pass-emission.new.ledger.history ≡ with_pass h (w.steps + 1) c.args.a p.current g c.in-Some.due left =
     c.record_pass-emission.ensures.history
     ∙ (ap (λ j. with_pass h (w.steps + 1) c.args.a j g c.in-Some.due c.as_slice.result.now) c.verdict-hop.ensures.hop
@@ -139,8 +140,8 @@ invariant_of-self-in-Some c =
     let room : emitted h.emissions + length left ≤ most_emitted =
     subst (λ (k : History). emitted k.emissions + length left ≤ most_emitted) (sym c.reserve.ensures.history)
     (omega (arith, long, c.self.invariant.few_bytes, c.emitted.ensures, c.if-bytes-emitted.false)) in
-    subst (Refines w.topo (store_of w.beacons) w.keys w.moment (w.steps + 1)) (sym history)
-    (passed_on w.topo (store_of w.beacons) w.keys w.moment w.steps h c.args.a p.current g c.in-Some.due left r
+    subst (Refines w.topo (store_of w.beacons) (is_fetched w.keys) w.moment (w.steps + 1)) (sym history)
+    (passed_on w.topo (store_of w.beacons) (is_fetched w.keys) w.moment w.steps h c.args.a p.current g c.in-Some.due left r
     (ledger_keeps w.topo h c.args.a g (w.steps + 1) c.in-Some.due p left c.keeps.ensures.events c.keeps.ensures.emissions c.keeps.ensures.spelled
     c.keeps.ensures.lawful r.kept spelled q.passable)
     room)
