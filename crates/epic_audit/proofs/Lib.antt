@@ -8,10 +8,10 @@ pub mod Queries
 pub mod Chained
 pub mod Alike
 mod FieldTags
-mod Hop
+pub mod Hop
 pub mod UpdateLaws
-mod Arrivals
-mod Dest
+pub mod Arrivals
+pub mod Dest
 pub mod Growth
 pub mod Keeping
 pub mod Lists

@@ -1,26 +1,24 @@
 -- An honest packet is carried to its destination.
-use Rattle.std.proofs.Common.{◌≡◌, ◌≢◌, ℕ, zero, suc, ◌+◌, ◌-◌, ◌*◌, ◌<◌, ◌≤◌, ◌⊎◌, inl, inr, Bool, true, false, not, List, [], ◌∷◌, ◌++◌, length, take, get_or, Option, None, Some, refl, ap, sym, subst, ◌∙◌, ⊎_elim, arith}
+use Rattle.std.proofs.Common.{◌≡◌, ℕ, zero, suc, ◌+◌, ◌-◌, ◌*◌, ◌<◌, ◌≤◌, Bool, true, false, List, [], ◌∷◌, ◌++◌, length, take, Option, None, Some, refl, ap, sym, subst, ◌∙◌, ⊎_elim, arith}
 use Rattle.std.proofs.Math.Nat.{mul-le-mul_right}
-use Rattle.std.specs.Prelude.{◌==◌, ◌&&◌, ◌||◌, nat_lt, nat_le, slice_get, is_some, IsSome, find, option_map, if◌then◌else◌}
+use Rattle.std.specs.Prelude.{◌==◌, ◌&&◌, nat_lt, is_some, IsSome, find, option_map, if◌then◌else◌}
 use Rattle.std.specs.Option.{option_map_or}
 use Rattle.std.specs.List.{All}
 use Rattle.std.proofs.lemmas.List.Elements.{All-head}
 use Rattle.std.proofs.lemmas.Slice.Eq.{bytes_eq-Decides}
-use Rattle.std.proofs.lemmas.Bool.{not_from_true, cond-true, cond-false, and_left, and_right, and_from, cases_Bool, cases_lt, both_ways, lt-ltb, le-ltb, lt-leb, eq-eqb, ne_eqb, eqb-true}
-use Rattle.epic_num.specs.declared.arrival.Arrival.{Arrival}
+use Rattle.std.proofs.lemmas.Bool.{not_from_true, cond-true, cond-false, and_from, cases_Bool, lt-ltb, le-ltb, lt-leb, eq-eqb, ne_eqb, eqb-true}
 use Rattle.epic_num.specs.declared.arrival.Arrival.TheVariants as arrival
 use Rattle.epic_num.specs.declared.arrival.DestCheck.TheVariants.{Layout}
 use Rattle.epic_num.specs.declared.hop.HopName.{HopName}
 use Rattle.epic_num.specs.declared.name.AsId.{AsId}
-use Rattle.epic_num.specs.declared.passed.PassResult.{PassResult}
-use Rattle.epic_num.specs.declared.passed.PassResult.TheVariants.{Turned, Arrived, Full}
+use Rattle.epic_num.specs.declared.passed.PassResult.TheVariants.{Full}
 use Rattle.epic_num.specs.declared.passed.Place.{Place}
 use Rattle.epic_num.specs.declared.passed.Place.TheVariants.{Router, Host}
 use Rattle.epic_num.specs.declared.turn.Turn.{Turn}
 use Rattle.epic_num.specs.declared.turn.Turn.TheVariants.{Forward, Deliver}
 use Rattle.epic_num.specs.declared.verdict.Verdict.{Verdict}
-use Rattle.epic_num.specs.Levels.{is_first_byte, is_timed, is_tagged, is_updated, level_of, level_number}
-use Rattle.epic_num.specs.Same.{same_as, same_host}
+use Rattle.epic_num.specs.Levels.{is_timed, is_tagged, level_of, level_number}
+use Rattle.epic_num.specs.Same.{same_as}
 use Rattle.epic_num.specs.Tables.{first_row}
 use Rattle.epic_num.specs.Windows.{Told, was_here, has_no_room, fresh_rows, window_rows}
 use Rattle.epic_num.proofs.MessageLaws.{at_tagged}
@@ -29,8 +27,8 @@ use Rattle.epic_num.proofs.TableLaws.{first_row-behind}
 use Rattle.epic_layout.specs.Contents.{Contents, IsPacket, IsSegment, hop_count}
 use Rattle.epic_layout.specs.declared.head.SegmentHead.{SegmentHead}
 use Rattle.epic_layout.proofs.HopPlaces.{hops_of-cons}
-use Rattle.epic_layout.specs.Layout.{fault, parse}
-use Rattle.epic_layout.specs.Route.{place, is_first, is_last, ingress, egress, body, hops_of}
+use Rattle.epic_layout.specs.Layout.{parse}
+use Rattle.epic_layout.specs.Route.{place, is_last, ingress, egress, body, hops_of}
 use Rattle.epic_layout.specs.Spelling.{spelling, path_bytes, dest_message}
 use Rattle.epic_layout.specs.Updates.{own_updates}
 use Rattle.epic_layout.proofs.Joins.{segments_join}
@@ -49,13 +47,13 @@ use Rattle.epic_router.proofs.Right.{two, one, some_hops, all_there, second_is}
 use Rattle.epic_ends.specs.Arriving.{end_rows, dest_field_fits, tagged_rows, rows, unless, arrived, arrival_of}
 use Rattle.epic_ends.specs.Ways.{IsRoad, IsMade, updates_of, on_way}
 use Rattle.epic_ends.proofs.Ways.{on_stamp, on_start, on_next, at_end, length-updates, count_updated, update_at}
-use Rattle.epic_ledger.specs.History.{History, Emission, emission_at, emitted}
-use Rattle.epic_ledger.specs.Facts.{Facts, Sent, Pass, as_pass, packet_at, facts_of, issues_in, sends_in, passes_in, reveals_in, sent_name, pass_name}
+use Rattle.epic_ledger.specs.History.{History, Emission, emitted}
+use Rattle.epic_ledger.specs.Facts.{Facts, Sent, Pass, as_pass, packet_at, facts_of, sent_name, pass_name}
 use Rattle.epic_ledger.specs.Queries.{issue_of, is_pass_of, same_path}
 use Rattle.epic_ledger.specs.declared.event.Event.TheVariants as event
 use Rattle.epic_audit.specs.Clauses.{GoesOnFrom, higher, lower, is_sent_like, sent_as}
 use Rattle.epic_audit.specs.Verdicts.{hop_verdict, dest_verdict, source_of, is_named}
-use Rattle.epic_model.specs.Carried.{Each, IsWelcome, IsProvedHop, IsEndVerdict, welcome, IsEnd, GoesOn, IsCarriedBy, IsCarried, IsProvedAllAlong, NoOtherPassed, NoneFuture, IsReady, HonestPacketsArrive, HonestPacketsAreProved}
+use Rattle.epic_model.specs.Carried.{Each, IsWelcome, IsProvedHop, IsEndVerdict, welcome, IsEnd, IsCarriedBy, IsCarried, IsProvedAllAlong, NoOtherPassed, NoneFuture, IsReady, HonestPacketsArrive, HonestPacketsAreProved}
 use Rattle.epic_model.specs.Honest.{Honest, count_below, is_turn_at}
 use Rattle.epic_model.specs.Passing.{Happened, most_emitted, rolls, nothing, passes_from, hop_verdicts, left, due_behind, turned_by, answer_at, turned_at, arrives, arrived_by, arrival_at, arrived_at, pass_at, passed_on, carried}
 use Rattle.epic_model.specs.Sends.{IsOnRecord}

@@ -1,8 +1,8 @@
 -- How often a packet comes to routers.
-use Rattle.std.proofs.Common.{◌≡◌, ◌≢◌, ℕ, zero, suc, ◌+◌, ◌-◌, ◌<◌, ◌≤◌, ◌⊎◌, inl, inr, Bool, true, false, refl, ap, sym, subst, ◌∙◌, ⊎_elim, arith, add-one}
-use Rattle.std.specs.Prelude.{◌==◌, ◌&&◌, if◌then◌else◌}
-use Rattle.std.proofs.lemmas.Bool.{cond-true, cond-false, cases_Bool, cases_lt}
-use Rattle.epic_layout.specs.Contents.{Contents, hop_count}
+use Rattle.std.proofs.Common.{◌≡◌, ℕ, zero, suc, ◌+◌, ◌-◌, ◌<◌, ◌≤◌, Bool, true, false, ap, sym, subst, ◌∙◌, ⊎_elim, arith, add-one}
+use Rattle.std.specs.Prelude.{if◌then◌else◌}
+use Rattle.std.proofs.lemmas.Bool.{cond-true, cond-false, cases_Bool}
+use Rattle.epic_layout.specs.Contents.{Contents}
 use Rattle.epic_router.specs.Checks.{has_second, handled_hops}
 use Rattle.epic_router.proofs.Right.{two, one}
 use Rattle.epic_model.specs.Honest.{count_below}

@@ -1,7 +1,6 @@
 -- A ledger with two issues and a packet that was sent over them keeps what every ledger keeps, and the packet is honest.
-use Rattle.std.proofs.Common.{◌≡◌, ◌≢◌, ℕ, zero, suc, ◌+◌, ◌*◌, ◌/◌, ◌%◌, ◌^◌, ◌<◌, ◌≤◌, ◌⊎◌, inl, inr, Bool, true, false, List, [], ◌∷◌, ◌++◌, length, map, replicate, Option, None, Some, Ok, refl, ap, sym, subst, ◌∙◌, arith}
-use Rattle.std.specs.Prelude.{if◌then◌else◌, slice_get, slice_index, AllPairs, sum_by}
-use Rattle.std.specs.List.{All}
+use Rattle.std.proofs.Common.{◌≡◌, ◌≢◌, ℕ, zero, suc, ◌+◌, ◌*◌, ◌/◌, ◌%◌, ◌^◌, ◌<◌, ◌≤◌, ◌⊎◌, inl, inr, Bool, true, false, List, [], ◌∷◌, length, replicate, Some, refl, ap, sym, subst, ◌∙◌, arith}
+use Rattle.std.specs.Prelude.{slice_get, slice_index, AllPairs}
 use Rattle.std.proofs.lemmas.Bool.{cond_both}
 use Rattle.std.proofs.lemmas.List.Elements.{All-cons, All-nil}
 use Rattle.arrayvec.specs.ArrayVec.{ArrayVec}
@@ -12,14 +11,13 @@ use Rattle.epic_num.specs.declared.name.HostId.{HostId}
 use Rattle.epic_num.specs.declared.segment.Leg.{Leg}
 use Rattle.epic_num.specs.declared.segment.SegKind.TheVariants.{Child}
 use Rattle.epic_num.specs.declared.segment.Segment.{Segment}
-use Rattle.epic_num.specs.Chains.{Issue, issue_at, name_of, ancestor, chain, last_names}
-use Rattle.epic_num.specs.Levels.{first_byte, is_first_byte, is_tagged, is_timed, level_number}
-use Rattle.epic_num.specs.Paths.{is_lawful, path_hops, path_start, path_end, start_of, end_of, travelled, kind_of, are_lawful_kinds}
+use Rattle.epic_num.specs.Chains.{issue_at, name_of, ancestor, chain, last_names}
+use Rattle.epic_num.specs.Levels.{first_byte, is_first_byte, level_number}
+use Rattle.epic_num.specs.Paths.{path_hops, path_end, start_of, end_of, travelled, kind_of, are_lawful_kinds}
 use Rattle.epic_num.specs.Segments.{first_hop, last_hop, first_as, last_as}
 use Rattle.epic_num.specs.Moments.{is_expired, is_stale, is_early, valid_until}
-use Rattle.epic_num.specs.Same.{same_as, same_host}
-use Rattle.epic_layout.specs.Contents.{Contents, IsPacket, hop_count, unfilled}
-use Rattle.epic_layout.specs.Layout.{parse}
+use Rattle.epic_num.specs.Same.{same_as}
+use Rattle.epic_layout.specs.Contents.{Contents, hop_count, unfilled}
 use Rattle.epic_layout.specs.PathRoutes.{head_of, hop_head, route_of}
 use Rattle.epic_layout.specs.Route.{body, hop, place, place_from, position, is_first}
 use Rattle.epic_layout.specs.Spelling.{spelling}
@@ -33,18 +31,17 @@ use Rattle.epic_fields.specs.Tags.{link}
 use Rattle.epic_beacon.specs.declared.beacon.Beacon.{Beacon}
 use Rattle.epic_beacon.specs.Issuing.{link_at, behind, kind_by, goes_on, first_name, next_name, beacon_of, stands_in, is_twin, twin, place_rows, originate_rows, onward_rows, extend_rows, originated, extended_from, extended}
 use Rattle.epic_beacon.specs.Laws.{IsIssued}
-use Rattle.epic_beacon.specs.Segments.{name_of_hop, last_hops, segment_to, segment}
+use Rattle.epic_beacon.specs.Segments.{last_hops, segment_to, segment}
 use Rattle.epic_beacon.specs.Store.{beacon_at}
 use Rattle.epic_beacon.specs.Told.{kind_after, beacons_after, beacons_in}
 use Rattle.epic_path.specs.Joins.{joined, walk, leg_from, hops_of, are_short, of_lawful_kinds}
 use Rattle.epic_ends.specs.Sending.{sent_packet, packet_over}
-use Rattle.epic_ledger.specs.History.{History, Emission, emitted}
+use Rattle.epic_ledger.specs.History.{History, emitted}
 use Rattle.epic_window.specs.Entries.{seen, count}
-use Rattle.epic_ledger.specs.Facts.{Sent, as_issue, as_send, as_pass, issues_in, sends_in, passes_in, packet_at, sent_name, sent_issue}
-use Rattle.epic_ledger.specs.OneMore.{with_event}
+use Rattle.epic_ledger.specs.Facts.{Sent, as_issue, as_send, as_pass, issues_in, passes_in, packet_at, sent_name, sent_issue}
 use Rattle.epic_ledger.specs.declared.event.Event.TheVariants as event
 use Rattle.epic_router.specs.Checks.{is_turn}
-use Rattle.epic_model.specs.Honest.{Honest, IsInForce, count_below, is_turn_at}
+use Rattle.epic_model.specs.Honest.{Honest, count_below, is_turn_at}
 use Rattle.epic_model.specs.Keeping.{Inv, IsSendable, SomeSendIsHonest, store_in, sent_at}
 use Rattle.epic_model.specs.Sends.{names_of}
 use Rattle.epic_model.specs.Windows.{router_entry, host_entry}

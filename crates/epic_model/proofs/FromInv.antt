@@ -1,7 +1,6 @@
 -- A packet that was sent has all that it takes to be carried, by what every ledger keeps.
-use Rattle.std.proofs.Common.{◌≡◌, ◌≢◌, ℕ, zero, suc, ◌+◌, ◌-◌, ◌*◌, ◌<◌, ◌≤◌, ◌⊎◌, inl, inr, Bool, true, false, List, [], ◌∷◌, ◌++◌, length, take, Option, None, Some, refl, ap, sym, subst, ◌∙◌, ⊎_elim, arith}
-use Rattle.std.specs.Prelude.{◌==◌, ◌&&◌, nat_lt, find, position, slice_get, slice_index_or, option_map, IsSome, if◌then◌else◌}
-use Rattle.std.specs.Option.{option_map_or, IfSome}
+use Rattle.std.proofs.Common.{◌≡◌, ℕ, suc, ◌+◌, ◌-◌, ◌*◌, Bool, true, List, length, take, Option, None, Some, refl, ap, sym, subst, ◌∙◌, ⊎_elim, arith}
+use Rattle.std.specs.Prelude.{◌==◌, ◌&&◌, find, position, slice_get, option_map, IsSome, if◌then◌else◌}
 use Rattle.std.proofs.lemmas.Bool.{le-ltb, and_from, both_ways, cond-true, cond-false, cases_Bool}
 use Rattle.std.proofs.lemmas.Option.{same_Some}
 use Rattle.epic_num.specs.declared.hop.HopName.{HopName}
@@ -10,28 +9,28 @@ use Rattle.epic_num.specs.Moments.{is_path_future}
 use Rattle.epic_num.specs.Same.{same_name}
 use Rattle.epic_num.proofs.SameLaws.{same_name-Decides}
 use Rattle.epic_num.specs.declared.passed.Place.TheVariants.{Router}
-use Rattle.epic_layout.specs.Contents.{Contents, IsPacket, hop_count}
+use Rattle.epic_layout.specs.Contents.{IsPacket}
 use Rattle.epic_layout.specs.Route.{body}
 use Rattle.epic_layout.specs.Spelling.{spelling}
 use Rattle.epic_topo.specs.Lawful.{IsTopology, LinksLeadBack}
 use Rattle.epic_topo.specs.Network.{Network}
 use Rattle.epic_topo.proofs.Linked.{links_lead_back}
-use Rattle.epic_ledger.specs.History.{History, Emission, emission_at}
-use Rattle.epic_ledger.specs.Facts.{Facts, Sent, as_send, packet_at, facts_of, issues_in, sends_in, sent_issue, sent_name}
-use Rattle.epic_ledger.specs.Lawful.{Fits, IsLawful}
+use Rattle.epic_ledger.specs.History.{History, Emission}
+use Rattle.epic_ledger.specs.Facts.{Sent, as_send, facts_of, issues_in, sends_in, sent_issue, sent_name}
+use Rattle.epic_ledger.specs.Lawful.{Fits}
 use Rattle.epic_ledger.specs.Queries.{issue_of}
 use Rattle.epic_ledger.specs.declared.event.Event.{Event}
 use Rattle.epic_ledger.specs.declared.event.Event.TheVariants as event
 use Rattle.epic_audit.specs.Clauses.{is_sent_like, is_sent_as, sent_as}
-use Rattle.epic_audit.specs.Kept.{AreApart, IsKeptSend}
+use Rattle.epic_audit.specs.Kept.{IsKeptSend}
 use Rattle.epic_audit.specs.Verdicts.{source_of, is_named}
-use Rattle.epic_audit.proofs.Decided.{SentAs, is_sent_as-Decides, is_sent_like-Decides}
+use Rattle.epic_audit.proofs.Decided.{is_sent_as-Decides, is_sent_like-Decides}
 use Rattle.epic_audit.proofs.Finds.{found_only, missing, missing_at}
 use Rattle.epic_audit.proofs.Growth.{lawful_packets}
 use Rattle.epic_audit.proofs.Lists.{answered}
 use Rattle.epic_model.specs.Carried.{IsReady, NoneFuture}
 use Rattle.epic_model.specs.Keeping.{Inv, HonestSendsArrive, HonestSendsAreProved, InvTwice}
-use Rattle.epic_model.specs.Sends.{names_of, IsRouted, IsOnRecord}
+use Rattle.epic_model.specs.Sends.{names_of, IsOnRecord}
 use Rattle.epic_model.proofs.Carrying.{honest_packets_arrive, honest_packets_are_proved}
 use Rattle.epic_model.proofs.SoundPasses.{none_twice_by_emissions}
 use Rattle.epic_model.proofs.Travelled.{road, made, chained_hops, named_hops, issue_there, named_issue}

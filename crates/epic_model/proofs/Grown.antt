@@ -1,13 +1,9 @@
 -- A ledger with the passes of a turn at its end, and the emission that it made.
-use Rattle.std.proofs.Common.{◌≡◌, ℕ, zero, suc, ◌+◌, ◌<◌, ◌≤◌, ◌⊎◌, inl, inr, Bool, true, false, not, List, [], ◌∷◌, ◌++◌, length, take, Option, None, Some, refl, ap, sym, subst, ◌∙◌, ⊎_elim, arith, add-one, length-append}
-use Rattle.std.specs.Prelude.{◌==◌, ◌||◌, ◌&&◌, filter_map, slice_get, IsSome, if◌then◌else◌}
-use Rattle.std.specs.List.{All}
+use Rattle.std.proofs.Common.{◌≡◌, ℕ, zero, suc, ◌+◌, ◌<◌, List, [], ◌∷◌, ◌++◌, length, Option, None, Some, refl, ap, sym, subst, ◌∙◌, arith, add-one}
+use Rattle.std.specs.Prelude.{◌&&◌, slice_get, if◌then◌else◌}
 use Rattle.std.specs.Option.{option_map_or}
-use Rattle.std.proofs.lemmas.Option.{slice_get_within, get_or_from_slice_get}
 use Rattle.epic_num.specs.Chains.{Issue}
 use Rattle.epic_num.specs.declared.name.AsId.{AsId}
-use Rattle.epic_num.specs.declared.name.HostId.{HostId}
-use Rattle.epic_num.specs.declared.passed.Place.{Place}
 use Rattle.epic_num.specs.Levels.{is_timed}
 use Rattle.epic_num.specs.Same.{same_as}
 use Rattle.epic_layout.specs.Contents.{Contents, IsPacket}
@@ -15,15 +11,14 @@ use Rattle.epic_layout.specs.Layout.{parse}
 use Rattle.epic_layout.specs.Spelling.{spelling}
 use Rattle.epic_layout.proofs.OneSpelling.{packets_are_spelled}
 use Rattle.epic_router.specs.Checks.{is_turn}
-use Rattle.epic_ledger.specs.History.{History, Emission, emission_at}
-use Rattle.epic_ledger.specs.Facts.{packet_at, issues_in}
-use Rattle.epic_ledger.specs.Lawful.{Fits, IsLawful}
+use Rattle.epic_ledger.specs.History.{Emission, emission_at}
+use Rattle.epic_ledger.specs.Facts.{packet_at}
+use Rattle.epic_ledger.specs.Lawful.{Fits}
 use Rattle.epic_ledger.specs.declared.event.Event.{Event}
 use Rattle.epic_ledger.specs.declared.event.Event.TheVariants as event
 use Rattle.epic_ledger.proofs.Growing.{emission_at-suc, packet_at-append}
-use Rattle.epic_audit.proofs.Lists.{same_answers}
 use Rattle.epic_model.specs.Passing.{passes_from}
-use Rattle.epic_model.specs.Windows.{router_entry, router_window}
+use Rattle.epic_model.specs.Windows.{router_entry}
 use Rattle.epic_router.specs.Remembering.{key_at}
 
 -- what a packet's one spelling says is the packet

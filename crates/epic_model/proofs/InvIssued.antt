@@ -1,6 +1,6 @@
 -- A hop that is issued keeps what every ledger keeps.
-use Rattle.std.proofs.Common.{◌≡◌, ◌≢◌, ℕ, zero, suc, ◌+◌, ◌-◌, ◌*◌, ◌/◌, ◌^◌, ◌<◌, ◌≤◌, ◌⊎◌, inl, inr, Bool, true, false, List, [], ◌∷◌, ◌++◌, length, map, Option, None, Some, Ok, refl, ap, sym, subst, ◌∙◌, ⊎_elim, arith}
-use Rattle.std.specs.Prelude.{◌==◌, slice_get, filter_map, option_map, unwrap_or, nat_lt, if◌then◌else◌}
+use Rattle.std.proofs.Common.{◌≡◌, ℕ, zero, suc, ◌+◌, ◌-◌, ◌*◌, ◌/◌, ◌^◌, ◌<◌, ◌≤◌, ◌⊎◌, inl, inr, List, [], ◌∷◌, ◌++◌, length, Option, None, Some, refl, ap, sym, subst, ◌∙◌, arith}
+use Rattle.std.specs.Prelude.{◌==◌, slice_get, filter_map, unwrap_or}
 use Rattle.std.proofs.lemmas.Bool.{cases_lt, cond-false, ne_eqb}
 use Rattle.std.proofs.lemmas.List.{map-append, length_push, length-map}
 use Rattle.std.proofs.lemmas.Option.{same_Some}
@@ -8,19 +8,16 @@ use Rattle.epic_num.specs.declared.hop.HopName.{HopName}
 use Rattle.epic_num.specs.declared.name.AsId.{AsId}
 use Rattle.epic_num.specs.declared.name.HostId.{HostId}
 use Rattle.epic_num.specs.Bodies.{IsBody}
-use Rattle.epic_num.specs.Chains.{Issue, issue_at, name_of, no_name}
+use Rattle.epic_num.specs.Chains.{Issue, issue_at, no_name}
 use Rattle.epic_num.proofs.ChainLaws.{slice_get-seam, issue_at-append, issue_at-next, issue_at-past}
-use Rattle.epic_layout.specs.Contents.{Contents, hop_count}
-use Rattle.epic_layout.specs.Route.{place, is_last}
 use Rattle.epic_topo.specs.Lawful.{IsTopology}
 use Rattle.epic_topo.specs.Network.{Network}
 use Rattle.epic_topo.proofs.Linked.{links_lead_back}
-use Rattle.epic_fields.specs.Issues.{IsKept, IssuesKept}
+use Rattle.epic_fields.specs.Issues.{IssuesKept}
 use Rattle.epic_beacon.specs.declared.beacon.Beacon.{Beacon}
-use Rattle.epic_beacon.specs.Chained.{AreChained, IsFirst, IsNext, IsChained}
-use Rattle.epic_beacon.specs.Laws as beacons
+use Rattle.epic_beacon.specs.Chained.{AreChained}
 use Rattle.epic_beacon.specs.Laws.{IsIssued}
-use Rattle.epic_beacon.specs.Store.{Store, beacon_at, issue_of, issues_of}
+use Rattle.epic_beacon.specs.Store.{beacon_at, issue_of, issues_of}
 use Rattle.epic_beacon.specs.Told.{beacons_in}
 use Rattle.epic_beacon.proofs.GoingOn.{issues_chain, issues_stay_kept, issues_tell, issues_have_times, issues_stay_in_range}
 use Rattle.epic_beacon.proofs.Issued.{issue_there}
@@ -30,12 +27,10 @@ use Rattle.epic_ledger.specs.Facts.{Sent, as_issue, as_send, facts_of, issues_in
 use Rattle.epic_ledger.specs.OneMore.{with_event}
 use Rattle.epic_ledger.specs.declared.event.Event.{Event}
 use Rattle.epic_ledger.specs.declared.event.Event.TheVariants as event
-use Rattle.epic_audit.specs.Events.{IssueFits}
 use Rattle.epic_audit.specs.Kept.{IsKeptSend}
 use Rattle.epic_audit.proofs.Keeping.{names_stay}
-use Rattle.epic_audit.proofs.Lists.{one_more, old_or_last}
-use Rattle.epic_model.specs.Keeping.{IsOnWay, ArePast, AreInRange, IsDue, Inv, InvIssues, store_in}
-use Rattle.epic_model.specs.Passing.{rolls}
+use Rattle.epic_audit.proofs.Lists.{one_more}
+use Rattle.epic_model.specs.Keeping.{ArePast, AreInRange, Inv, InvIssues, store_in}
 use Rattle.epic_model.specs.Sends.{names_of, IsRouted}
 use Rattle.epic_model.specs.Windows.{router_entry, host_entry}
 use Rattle.epic_model.proofs.InvKept.{sound_on, once_on, begins_on}

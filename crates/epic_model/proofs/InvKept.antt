@@ -1,23 +1,19 @@
 -- What every ledger keeps, it keeps as things happen.
-use Rattle.std.proofs.Common.{◌≡◌, ◌≢◌, ℕ, zero, suc, ◌+◌, ◌-◌, ◌*◌, ◌/◌, ◌^◌, ◌<◌, ◌≤◌, ◌⊎◌, inl, inr, Bool, true, false, List, [], ◌∷◌, ◌++◌, length, take, map, Option, None, Some, Ok, refl, ap, sym, subst, ◌∙◌, ⊎_elim, arith}
-use Rattle.std.specs.Prelude.{◌==◌, slice_get, filter_map, IsSome, nat_lt, if◌then◌else◌}
+use Rattle.std.proofs.Common.{◌≡◌, ℕ, zero, suc, ◌+◌, ◌-◌, ◌≤◌, inl, inr, true, List, [], ◌∷◌, ◌++◌, length, take, Option, None, Some, refl, ap, sym, subst, ◌∙◌, ⊎_elim, arith}
+use Rattle.std.specs.Prelude.{◌==◌, slice_get, filter_map, IsSome}
 use Rattle.std.specs.List.{All}
 use Rattle.std.specs.Option.{option_map_or, IfSome}
-use Rattle.std.proofs.lemmas.Bool.{cases_lt, eqb-true, cases_Bool, cond-true, cond-false, cond_both}
-use Rattle.std.proofs.lemmas.List.{map-append, length_push, length-map}
-use Rattle.std.proofs.lemmas.List.Elements.{All-append, All-cons, All-nil, All-push}
+use Rattle.std.proofs.lemmas.Bool.{cases_Bool, cond-true, cond-false, cond_both}
+use Rattle.std.proofs.lemmas.List.Elements.{All-nil, All-push}
 use Rattle.std.proofs.lemmas.Option.{same_Some, slice_get_within, get_or_from_slice_get}
-use Rattle.epic_num.specs.declared.key_name.Holder.{Holder}
 use Rattle.epic_num.specs.declared.name.AsId.{AsId}
 use Rattle.epic_num.specs.declared.name.HostId.{HostId}
 use Rattle.epic_num.specs.declared.passed.PassResult.TheVariants.{Full}
 use Rattle.epic_num.specs.declared.passed.Place.{Place}
 use Rattle.epic_num.specs.declared.passed.Place.TheVariants.{Router, Host}
 use Rattle.epic_num.specs.declared.turn.Turn.{Turn}
-use Rattle.epic_num.specs.Bodies.{IsBody}
 use Rattle.epic_num.specs.Chains.{Issue, issue_at}
-use Rattle.epic_num.proofs.ChainLaws.{issue_at-zero, issue_at-suc, issue_at-append, issue_at-next, issue_at-past}
-use Rattle.epic_layout.specs.Contents.{Contents, hop_count}
+use Rattle.epic_layout.specs.Contents.{hop_count}
 use Rattle.epic_layout.specs.Layout.{parse}
 use Rattle.epic_layout.specs.Reading.{IsRead}
 use Rattle.epic_layout.specs.Spelling.{spelling}
@@ -32,22 +28,21 @@ use Rattle.epic_router.specs.Candidates.{candidates_of}
 use Rattle.epic_router.specs.Leaving.{packet_after}
 use Rattle.epic_router.specs.RightTurns.{IsAccepted}
 use Rattle.epic_ledger.specs.History.{History, Emission, emission_at, step_of}
-use Rattle.epic_ledger.specs.Facts.{Sent, as_issue, as_send, facts_of, issues_in, sends_in, reveals_in, packet_at}
-use Rattle.epic_ledger.specs.Lawful.{Fits, IsEmission, IsLast, IsLawful}
-use Rattle.epic_ledger.specs.OneMore.{with_event, with_emission}
+use Rattle.epic_ledger.specs.Facts.{as_issue, as_send, issues_in, sends_in}
+use Rattle.epic_ledger.specs.Lawful.{Fits, IsEmission, IsLast}
+use Rattle.epic_ledger.specs.OneMore.{with_event}
 use Rattle.epic_ledger.specs.declared.event.Event.{Event}
 use Rattle.epic_ledger.specs.declared.event.Event.TheVariants as event
 use Rattle.epic_ledger.proofs.Growing.{emission_at-append}
 use Rattle.epic_audit.specs.Events.{EventFits}
-use Rattle.epic_audit.specs.Reveals.{IsRevealed}
 use Rattle.epic_audit.proofs.Growth.{events_are_lawful}
 use Rattle.epic_audit.proofs.Keeping.{events_keep, nothing_is_kept}
-use Rattle.epic_model.specs.Keeping.{IsOnWay, ArePast, AreInRange, IsDue, Inv, InvStart, InvLater, InvTurns, InvArrivals, InvPasses, InvCarries, InvOthers}
-use Rattle.epic_model.specs.Passing.{Happened, rolls, passes_from, left, due_behind, arrives, turned_at, arrived_at, pass_at, passed_on, carried, last_history, nothing}
+use Rattle.epic_model.specs.Keeping.{ArePast, AreInRange, IsDue, Inv, InvStart, InvLater, InvTurns, InvArrivals, InvPasses, InvCarries, InvOthers}
+use Rattle.epic_model.specs.Passing.{rolls, left, due_behind, arrives, pass_at, passed_on, carried, last_history, nothing}
 use Rattle.epic_model.specs.Sends.{IsRouted}
 use Rattle.epic_model.specs.Sound.{IsSound}
-use Rattle.epic_model.specs.Twice.{Passes, BeginWell}
-use Rattle.epic_model.specs.Windows.{router_entry, router_window, host_entry, AreOnce, NoneTwice}
+use Rattle.epic_model.specs.Twice.{BeginWell}
+use Rattle.epic_model.specs.Windows.{router_entry, router_window, host_entry, NoneTwice}
 use Rattle.epic_router.specs.Remembering.{key_at}
 use Rattle.epic_window.specs.Entries.{told_of}
 use Rattle.epic_model.proofs.Longer.{none_behind, at_front, same_issues, same_sends}
@@ -241,7 +236,7 @@ inv_passes t h now step (Router a iface) bytes topology due read inv = inv_turns
 inv_passes t h now step (Host d) bytes topology due read inv = inv_arrivals t h now step d bytes inv
 
 -- an emission that is there is due in the topology, and spells a packet
-there_fits : (t : Network) (h : History) (number : ℕ) (e : Emission) → All IsEmission h.emissions → All (λ x. IsDue t x.place) h.emissions
+pub there_fits : (t : Network) (h : History) (number : ℕ) (e : Emission) → All IsEmission h.emissions → All (λ x. IsDue t x.place) h.emissions
     → emission_at h.emissions number ≡ Some e → IsDue t e.place × IsRead e.bytes
 unfolding emission_at
 there_fits t h number e packets places at =

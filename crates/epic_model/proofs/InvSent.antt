@@ -1,16 +1,15 @@
 -- A packet that is sent keeps what every ledger keeps.
-use Rattle.std.proofs.Common.{◌≡◌, ◌≢◌, ℕ, zero, suc, ◌+◌, ◌-◌, ◌^◌, ◌<◌, ◌≤◌, ◌⊎◌, inl, inr, Bool, true, false, List, [], ◌∷◌, ◌++◌, length, get_or, take, map, max, Option, None, Some, Ok, refl, ap, sym, subst, ◌∙◌, ⊎_elim, arith}
-use Rattle.std.specs.Prelude.{◌==◌, IsTrue, Result, slice_get, slice_index_or, filter_map, option_map, IsSome, if◌then◌else◌}
+use Rattle.std.proofs.Common.{◌≡◌, ℕ, zero, suc, ◌+◌, ◌-◌, ◌<◌, ◌≤◌, ◌⊎◌, inl, inr, true, false, List, [], ◌∷◌, ◌++◌, length, get_or, take, map, max, Option, None, Some, Ok, refl, ap, sym, subst, ◌∙◌, ⊎_elim, arith}
+use Rattle.std.specs.Prelude.{◌==◌, IsTrue, slice_get, slice_index_or, option_map, IsSome}
 use Rattle.std.specs.List.{All}
 use Rattle.std.specs.Option.{option_map_or}
 use Rattle.std.proofs.lemmas.Bool.{cond-true, cond-false, cases_Bool, eq-eqb}
 use Rattle.std.proofs.lemmas.List.{length-map}
-use Rattle.std.proofs.lemmas.List.Elements.{All-from_get_or, All-get_or, All-cons, All-nil, All-push}
-use Rattle.std.proofs.lemmas.Option.{same_Some, slice_get-map, slice_get-get_or, get_or_from_slice_get, slice_get_within}
+use Rattle.std.proofs.lemmas.List.Elements.{All-from_get_or, All-cons, All-nil, All-push}
+use Rattle.std.proofs.lemmas.Option.{same_Some, slice_get-map, slice_get-get_or}
 use Rattle.arrayvec.specs.ArrayVec.{ArrayVec}
 use Rattle.epic_num.specs.declared.hop.HopName.{HopName}
 use Rattle.epic_num.specs.declared.hop.Level.{Level}
-use Rattle.epic_num.specs.declared.name.AsId.{AsId}
 use Rattle.epic_num.specs.declared.name.HostId.{HostId}
 use Rattle.epic_num.specs.declared.passed.Place.TheVariants.{Router}
 use Rattle.epic_num.specs.declared.segment.Leg.{Leg}
@@ -23,33 +22,28 @@ use Rattle.epic_num.specs.Paths.{is_lawful, path_start, path_end}
 use Rattle.epic_num.specs.Same.{same_host}
 use Rattle.epic_num.specs.Segments.{is_well_formed}
 use Rattle.epic_num.proofs.SameLaws.{same_host-Decides}
-use Rattle.epic_layout.specs.declared.head.SegmentHead.{SegmentHead}
 use Rattle.epic_layout.specs.Contents.{Contents, IsPacket, unfilled}
 use Rattle.epic_layout.specs.Layout.{parse}
 use Rattle.epic_layout.specs.PathRoutes.{head_of, route_of}
-use Rattle.epic_layout.specs.Route.{Route, no_segment}
+use Rattle.epic_layout.specs.Route.{no_segment}
 use Rattle.epic_layout.specs.Spelling.{spelling}
 use Rattle.epic_layout.proofs.OneSpelling.{packets_are_spelled}
-use Rattle.epic_topo.specs.Lawful.{IsTopology}
 use Rattle.epic_topo.specs.Network.{Network, has}
 use Rattle.epic_fields.specs.Issues.{IssuesKept}
-use Rattle.epic_fields.specs.Tags.{sigma}
 use Rattle.epic_beacon.specs.declared.beacon.Beacon.{Beacon}
 use Rattle.epic_beacon.specs.Chained.{AreChained}
 use Rattle.epic_beacon.specs.Segments.{name_of_hop, segment, IsSegment}
-use Rattle.epic_beacon.specs.Store.{beacon_at, issue_of, issues_of}
 use Rattle.epic_beacon.specs.Told.{beacons_in}
 use Rattle.epic_beacon.proofs.Formed.{segment_is}
 use Rattle.epic_beacon.proofs.Issued.{issue_there}
 use Rattle.epic_beacon.proofs.Sigmas.{segments_have_sigmas}
 use Rattle.epic_beacon.proofs.Told.{issues_in_beacons}
-use Rattle.epic_path.specs.Joins.{joined}
 use Rattle.epic_path.proofs.WalkLaws.{joins_are_lawful}
 use Rattle.epic_ends.specs.Admitting.{next_ts}
 use Rattle.epic_ends.specs.Sending.{no_hop, packet_over, sent_packet, made_packet}
-use Rattle.epic_ends.specs.SentPackets.{EachHop, HaveSigmas, AreInRange}
+use Rattle.epic_ends.specs.SentPackets.{HaveSigmas, AreInRange}
 use Rattle.epic_ends.proofs.Made.{sent_packets_are_made, made_packets_are_spelled}
-use Rattle.epic_ledger.specs.History.{History, Emission, emission_at, step_of}
+use Rattle.epic_ledger.specs.History.{History, Emission, step_of}
 use Rattle.epic_router.specs.Checks.{is_turn}
 use Rattle.epic_ledger.specs.Facts.{Facts, Sent, as_issue, as_send, facts_of, issues_in, sends_in, packet_at}
 use Rattle.epic_ledger.specs.Lawful.{FitsSend, IsEmission}
@@ -57,7 +51,7 @@ use Rattle.epic_ledger.specs.OneMore.{with_event, with_emission}
 use Rattle.epic_ledger.specs.declared.event.Event.{Event}
 use Rattle.epic_ledger.specs.declared.event.Event.TheVariants as event
 use Rattle.epic_ledger.proofs.Growing.{emission_at-append, packet_at-append}
-use Rattle.epic_audit.specs.Events.{IsUnsent, SendFits}
+use Rattle.epic_audit.specs.Events.{IsUnsent}
 use Rattle.epic_audit.specs.Kept.{IsKeptSend}
 use Rattle.epic_audit.proofs.Growth.{emissions_add_nothing}
 use Rattle.epic_audit.proofs.Lists.{one_more, old_or_last}
@@ -65,14 +59,14 @@ use Rattle.epic_model.specs.Keeping as keeping
 use Rattle.epic_model.specs.Keeping.{IsOnWay, ArePast, IsDue, Inv, IsSendable, InvSends, NextIsUnsent, latest_sent, sent_at}
 use Rattle.epic_model.specs.Sound.{IsSound}
 use Rattle.epic_model.specs.Sends.{IsOver, AreOver, IsRouted}
-use Rattle.epic_model.specs.Twice.{Passes, BeginWell}
+use Rattle.epic_model.specs.Twice.{BeginWell}
 use Rattle.epic_model.specs.Windows.{router_entry, host_entry, NoneTwice}
-use Rattle.epic_model.proofs.Grown.{parse-spelling, emission_next, packet_next, entry_stays}
+use Rattle.epic_model.proofs.Grown.{emission_next, packet_next, entry_stays}
 use Rattle.epic_model.proofs.InvKept.{sound_on, once_on, begins_on}
 use Rattle.epic_model.proofs.Longer.{AreThere, none_behind}
-use Rattle.epic_model.proofs.Remembered.{once_same, once_others}
+use Rattle.epic_model.proofs.Remembered.{once_same}
 use Rattle.epic_model.proofs.Riding.{lawful_there}
-use Rattle.epic_model.proofs.SentKept.{ChainOf, chain_of, all_ended, over_long, over_at, ended_issue, kept_send, routed}
+use Rattle.epic_model.proofs.SentKept.{chain_of, over_long, ended_issue, kept_send, routed}
 use Rattle.epic_model.proofs.SoundPasses.{one_emission}
 use Rattle.epic_model.proofs.Travelled.{named_issue}
 
@@ -297,6 +291,16 @@ module _ (t : Network) (h : History) (now step first : ℕ) (src dst : HostId) (
             })
       ]
 
+  -- what was sent is what was sent before, or this packet
+  sends_split : (n : ℕ) (s : Sent) → slice_get (sends_in (sent_at step h numbers (made_packet t legs first src dst ts payload))) n ≡ Some s
+      → (slice_get (sends_in h) n ≡ Some s) ⊎ (s.packet ≡ made_packet t legs first src dst ts payload)
+  unfolding sent_at x e new
+  sends_split n s at =
+      elim (old_or_last (sends_in (with_emission h x)) new s n (ap (λ l. slice_get l n) (sym sends_now) ∙ at)) [
+        | inl old ↦ inl (ap (λ l. slice_get l n) (sym sends_same) ∙ old)
+        | inr last ↦ inr (ap (λ (r : Sent). r.packet) (sym last.1) ∙ at_number)
+      ]
+
   inv_with : Inv t (sent_at step h numbers (made_packet t legs first src dst ts payload)) now step
   unfolding sent_at x e
   inv_with = record {
@@ -357,6 +361,18 @@ inv_sends t h now step version level src dst ts numbers legs payload topology s 
     let of = sends t h now step version level src dst ts numbers.items legs payload s inv in
     subst (λ p. Inv t (sent_at step h numbers p) now step) (sym of.same)
     (inv_with t h now step (first_byte version level) src dst ts numbers legs payload inv of.over of.lawful of.starts s.leads s.known of.packet of.reads
+    (subst (IsUnsent (sends_in h)) of.same unsent))
+
+-- what was sent is what was sent before, or this packet
+pub sends_after : (t : Network) (h : History) (now step version : ℕ) (level : Level) (src dst : HostId) (ts : ℕ) (numbers : ArrayVec ℕ) (legs : List Leg) (payload : List ℕ)
+    → IsSendable t h version level src dst ts numbers.items legs payload → IsUnsent (sends_in h) (sent_packet t legs version level src dst ts payload)
+    → Inv t h now step → (n : ℕ) (x : Sent)
+    → slice_get (sends_in (sent_at step h numbers (sent_packet t legs version level src dst ts payload))) n ≡ Some x
+    → (slice_get (sends_in h) n ≡ Some x) ⊎ (x.packet ≡ sent_packet t legs version level src dst ts payload)
+sends_after t h now step version level src dst ts numbers legs payload s unsent inv =
+    let of = sends t h now step version level src dst ts numbers.items legs payload s inv in
+    subst (λ p. (n : ℕ) (x : Sent) → slice_get (sends_in (sent_at step h numbers p)) n ≡ Some x → (slice_get (sends_in h) n ≡ Some x) ⊎ (x.packet ≡ p)) (sym of.same)
+    (sends_split t h now step (first_byte version level) src dst ts numbers legs payload inv of.over of.lawful of.starts s.leads s.known of.packet of.reads
     (subst (IsUnsent (sends_in h)) of.same unsent))
 
 -- ---- the next timestamp

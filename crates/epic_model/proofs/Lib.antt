@@ -15,3 +15,6 @@ pub mod Welcome
 pub mod SentKept
 pub mod InvSent
 pub mod Example
+pub mod Judging
+pub mod Stepping
+pub mod Telling

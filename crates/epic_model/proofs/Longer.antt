@@ -1,22 +1,21 @@
 -- What a ledger says after the passes of a turn and their emission.
-use Rattle.std.proofs.Common.{◌≡◌, ◌≢◌, ℕ, zero, suc, ◌+◌, ◌<◌, ◌≤◌, ◌⊎◌, inl, inr, Bool, true, false, cond, List, [], ◌∷◌, ◌++◌, length, Option, None, Some, refl, ap, sym, subst, ◌∙◌, ⊎_elim, arith, length-append}
-use Rattle.std.specs.Prelude.{◌&&◌, ◌==◌, filter_map, count_by, slice_get, is_some, IsSome, ⊤, if◌then◌else◌}
+use Rattle.std.proofs.Common.{◌≡◌, ◌≢◌, ℕ, zero, suc, ◌+◌, ◌≤◌, Bool, true, false, cond, List, [], ◌∷◌, ◌++◌, length, Option, None, Some, refl, ap, sym, ◌∙◌, ⊎_elim, arith}
+use Rattle.std.specs.Prelude.{◌&&◌, filter_map, count_by, slice_get, IsSome, ⊤, if◌then◌else◌}
 use Rattle.std.specs.List.{cons_option}
 use Rattle.std.specs.Map.{lookup}
 use Rattle.std.proofs.lemmas.Bool.{cond-true, cond-false, and_left, and_right, ne_eqb, cases_Bool}
-use Rattle.std.proofs.lemmas.List.{append-nil, append_assoc}
+use Rattle.std.proofs.lemmas.List.{append-nil}
 use Rattle.std.proofs.lemmas.List.Elements.{filter_map-append}
 use Rattle.std.proofs.lemmas.List.Sums.{sum_by-append, sum_by-cons}
 use Rattle.epic_num.specs.declared.name.AsId.{AsId}
 use Rattle.epic_num.specs.declared.name.HostId.{HostId}
-use Rattle.epic_num.specs.declared.passed.Place.{Place}
 use Rattle.epic_num.specs.declared.profile.Profile.{Profile}
 use Rattle.epic_num.specs.Moments.{is_live}
 use Rattle.epic_num.specs.Same.{same_as}
 use Rattle.epic_window.specs.Entries.{Entries, same_win_key, seen, count}
 use Rattle.epic_window.specs.declared.key.WinKey.{WinKey}
 use Rattle.epic_ledger.specs.History.{History, Emission, emission_at, emitted}
-use Rattle.epic_ledger.specs.Facts.{as_issue, as_send, as_pass, as_reveal, issues_in, sends_in, reveals_in, packet_at}
+use Rattle.epic_ledger.specs.Facts.{as_issue, as_send, as_pass, as_reveal, issues_in, sends_in, reveals_in}
 use Rattle.epic_ledger.specs.declared.event.Event.{Event}
 use Rattle.epic_ledger.specs.declared.event.Event.TheVariants as event
 use Rattle.epic_ledger.proofs.Growing.{packet_at-append}

@@ -1,8 +1,8 @@
 -- Turns and arrivals put nothing twice into a ledger.
-use Rattle.std.proofs.Common.{◌≡◌, ◌≢◌, ℕ, zero, suc, ◌+◌, ◌<◌, ◌≤◌, ◌⊎◌, inl, inr, Bool, true, false, not, List, [], ◌∷◌, ◌++◌, length, take, min, Option, None, Some, refl, ap, sym, subst, ◌∙◌, ⊎_elim, arith, length-take}
-use Rattle.std.specs.Prelude.{◌==◌, ◌||◌, ◌&&◌, nat_lt, filter_map, slice_get, is_some, IsSome, if◌then◌else◌}
-use Rattle.std.proofs.lemmas.Bool.{and_parts, and_right, cond-true, cond-false, cond_both, cases_Bool, both_ways, true≢false, ne_eqb, or_from}
-use Rattle.std.proofs.lemmas.Option.{same_Some, cond_some}
+use Rattle.std.proofs.Common.{◌≡◌, ℕ, suc, ◌+◌, ◌<◌, ◌≤◌, ◌⊎◌, inl, inr, Bool, true, false, not, List, [], ◌∷◌, ◌++◌, length, take, None, Some, refl, ap, sym, ◌∙◌, ⊎_elim, arith, length-take}
+use Rattle.std.specs.Prelude.{◌==◌, ◌||◌, ◌&&◌, nat_lt, slice_get, IsSome}
+use Rattle.std.proofs.lemmas.Bool.{and_parts, and_right, cond-false, cond_both, cases_Bool, ne_eqb, or_from}
+use Rattle.std.proofs.lemmas.Option.{cond_some}
 use Rattle.epic_num.specs.declared.arrival.Arrival.{Arrival}
 use Rattle.epic_num.specs.declared.arrival.Arrival.TheVariants as arrival
 use Rattle.epic_num.specs.declared.name.AsId.{AsId}
@@ -10,27 +10,25 @@ use Rattle.epic_num.specs.declared.name.HostId.{HostId}
 use Rattle.epic_num.specs.declared.passed.PassResult.TheVariants.{Full}
 use Rattle.epic_num.specs.declared.passed.Place.{Place}
 use Rattle.epic_num.specs.declared.passed.Place.TheVariants.{Host}
-use Rattle.epic_num.specs.declared.profile.Profile.{Profile}
 use Rattle.epic_num.specs.declared.turn.Turn.{Turn}
 use Rattle.epic_num.specs.declared.turn.Turn.TheVariants.{Forward, Deliver, Refused}
 use Rattle.epic_num.specs.Levels.{is_timed}
-use Rattle.epic_num.specs.Moments.{is_stale}
 use Rattle.epic_num.specs.Same.{same_as, same_host}
 use Rattle.epic_num.specs.Windows.{Told, was_here}
 use Rattle.epic_num.proofs.SameLaws.{same_as-Decides, same_host-Decides}
-use Rattle.epic_layout.specs.Contents.{Contents, IsPacket, hop_count}
+use Rattle.epic_layout.specs.Contents.{Contents, hop_count}
 use Rattle.epic_layout.specs.Layout.{parse}
 use Rattle.epic_layout.specs.Reading.{IsRead}
 use Rattle.epic_layout.specs.Route.{Route, place, is_first}
 use Rattle.epic_layout.specs.Spelling.{spelling}
 use Rattle.epic_layout.proofs.Joins.{segments_join}
 use Rattle.epic_topo.specs.Network.{Network, neighbour}
-use Rattle.epic_window.specs.Entries.{seen, told_of}
+use Rattle.epic_window.specs.Entries.{told_of}
 use Rattle.epic_window.specs.declared.key.WinKey.{WinKey}
 use Rattle.epic_router.specs.Candidates.{candidates_of}
 use Rattle.epic_router.specs.Checks.{is_turn, has_second, handled_hops}
 use Rattle.epic_router.specs.Leaving.{packet_after}
-use Rattle.epic_router.specs.RightTurns.{IsAccepted, IsRightTurn, GoesOn}
+use Rattle.epic_router.specs.RightTurns.{IsAccepted, IsRightTurn}
 use Rattle.epic_router.proofs.Right.{turns_are_right, second_is, one, few_hops}
 use Rattle.epic_ends.specs.RightArrivals.{IsAtEnd, IsChecked, IsRightArrival}
 use Rattle.epic_ends.proofs.Arrivals.{arrivals_are_right}
@@ -39,7 +37,7 @@ use Rattle.epic_ledger.specs.Facts.{packet_at, issues_in}
 use Rattle.epic_ledger.specs.Lawful.{IsLawful}
 use Rattle.epic_ledger.specs.declared.event.Event.{Event}
 use Rattle.epic_ledger.specs.declared.event.Event.TheVariants as event
-use Rattle.epic_model.specs.Passing.{most_emitted, rolls, passes_from, nothing, left, due_behind, turned_by, answer_at, turned_at, arrives, arrived_by, arrival_at, arrived_at, Happened}
+use Rattle.epic_model.specs.Passing.{most_emitted, rolls, passes_from, nothing, left, due_behind, turned_by, answer_at, turned_at, arrives, arrived_by, arrival_at, arrived_at}
 use Rattle.epic_model.specs.Twice.{NothingTwice, TurnsStayOnce, ArrivalsStayOnce}
 use Rattle.epic_model.specs.Windows.{router_entry, router_window, host_entry, host_window, AreOnce, NoneTwice}
 use Rattle.epic_router.specs.Remembering.{key_at}

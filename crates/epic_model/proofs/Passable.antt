@@ -1,13 +1,10 @@
 -- A packet on its way passes every row of a router's table.
-use Rattle.std.proofs.Common.{◌≡◌, ◌≢◌, ℕ, zero, suc, ◌+◌, ◌-◌, ◌<◌, ◌≤◌, ◌⊎◌, inl, inr, Bool, true, false, not, List, [], ◌∷◌, ◌++◌, length, take, Option, None, Some, refl, ap, sym, subst, ◌∙◌, ⊎_elim, arith}
-use Rattle.std.specs.Prelude.{◌==◌, ◌&&◌, ◌||◌, nat_le, is_none, is_some, option_map, unwrap_or, if◌then◌else◌}
-use Rattle.std.proofs.lemmas.Bool.{and_from, and_left, and_right, and_cases, or_from, or_parts, or_cases, not-true, not-false, not_from_true, not_from_false, cond-true, cond-false, cases_Bool, eqb-true, eqb-false, eq-eqb, ne_eqb, both_ways}
+use Rattle.std.proofs.Common.{◌≡◌, ℕ, ◌+◌, ◌<◌, ◌≤◌, ◌⊎◌, inl, inr, Bool, true, false, not, List, [], ◌∷◌, ◌++◌, length, Option, None, refl, ap, sym, subst, ◌∙◌, ⊎_elim, arith}
+use Rattle.std.specs.Prelude.{◌==◌, ◌&&◌, is_none, option_map, unwrap_or, if◌then◌else◌}
+use Rattle.std.proofs.lemmas.Bool.{and_left, and_right, and_cases, or_from, or_cases, not-true, not-false, not_from_true, cond-true, cond-false, cases_Bool, eqb-true, eq-eqb, ne_eqb, both_ways}
 use Rattle.epic_num.specs.declared.hop.HopName.{HopName}
-use Rattle.epic_num.specs.declared.name.AsId.{AsId}
-use Rattle.epic_num.specs.declared.turn.Check.{Check}
 use Rattle.epic_num.specs.declared.turn.Check.TheVariants.{Layout}
-use Rattle.epic_num.specs.declared.turn.Turn.{Turn}
-use Rattle.epic_num.specs.Levels.{is_first_byte, is_timed, is_updated}
+use Rattle.epic_num.specs.Levels.{is_timed, is_updated}
 use Rattle.epic_num.specs.Moments.{is_path_future, is_expired, is_stale, is_early}
 use Rattle.epic_num.specs.Same.{same_as}
 use Rattle.epic_num.specs.Tables.{first_row}
@@ -15,7 +12,7 @@ use Rattle.epic_num.specs.Windows.{Told, was_here, has_no_room, fresh_rows as fr
 use Rattle.epic_num.proofs.SameLaws.{same_as-Decides}
 use Rattle.epic_num.proofs.TableLaws.{first_row-behind}
 use Rattle.epic_layout.specs.Contents.{Contents, IsPacket, hop_count}
-use Rattle.epic_layout.specs.Layout.{fault, parse}
+use Rattle.epic_layout.specs.Layout.{parse}
 use Rattle.epic_layout.specs.Route.{place, is_first, is_last, ingress, egress, body, hops_of}
 use Rattle.epic_layout.specs.Spelling.{spelling}
 use Rattle.epic_layout.proofs.HopPlaces.{places_are_one}
@@ -23,7 +20,7 @@ use Rattle.epic_layout.proofs.Joins.{segments_join}
 use Rattle.epic_layout.proofs.OneSpelling.{packets_are_spelled}
 use Rattle.epic_topo.specs.Network.{Network, neighbour}
 use Rattle.epic_router.specs.Candidates.{accepting, some_field_fits, candidates_of}
-use Rattle.epic_router.specs.Checks.{Row, differ, is_turn, has_second, handled_hops, last_handled, is_wrong_source, is_wrong_switch, entry_rows, valid_rows, fresh_rows, tag_rows, switch_rows, second_rows, exit_rows, window_rows, rows}
+use Rattle.epic_router.specs.Checks.{differ, is_turn, has_second, handled_hops, last_handled, is_wrong_source, is_wrong_switch, entry_rows, valid_rows, fresh_rows, tag_rows, switch_rows, second_rows, exit_rows, window_rows, rows}
 use Rattle.epic_router.specs.Handling.{generation_at, generations_from, onward, unless, handled, turn_of}
 use Rattle.epic_router.proofs.Right.{second_is}
 use Rattle.epic_ends.specs.Ways.{IsRoad, IsMade, on_way}

@@ -1,11 +1,9 @@
 -- A packet that its source sent, on its way through the ledgers of a carry.
-use Rattle.std.proofs.Common.{◌≡◌, ◌≢◌, ℕ, zero, suc, ◌+◌, ◌-◌, ◌*◌, ◌<◌, ◌≤◌, ◌⊎◌, inl, inr, Bool, true, false, not, List, [], ◌∷◌, ◌++◌, length, take, get_or, Option, None, Some, refl, ap, sym, subst, ◌∙◌, ⊎_elim, arith, add-one}
+use Rattle.std.proofs.Common.{◌≡◌, ℕ, zero, suc, ◌+◌, ◌*◌, ◌<◌, ◌≤◌, ◌⊎◌, inl, inr, Bool, true, false, List, [], ◌∷◌, ◌++◌, length, take, Option, None, Some, refl, ap, sym, subst, ◌∙◌, ⊎_elim, arith, add-one}
 use Rattle.std.proofs.Math.Nat.{suc-mul}
-use Rattle.std.specs.Prelude.{◌==◌, ◌&&◌, ◌||◌, nat_lt, slice_get, is_some, IsSome, if◌then◌else◌}
-use Rattle.std.specs.Option.{option_map_or}
-use Rattle.std.proofs.lemmas.Bool.{cond-true, cond-false, and_left, and_right, and_from, or_right, cases_Bool, cases_lt, both_ways, lt-ltb, le-ltb, not_from_false}
+use Rattle.std.specs.Prelude.{◌==◌, ◌&&◌, nat_lt, slice_get, IsSome, if◌then◌else◌}
+use Rattle.std.proofs.lemmas.Bool.{cond-true, cond-false, and_left, and_from, or_right, cases_Bool, cases_lt, both_ways, not_from_false}
 use Rattle.std.proofs.lemmas.Option.{same_Some}
-use Rattle.std.proofs.lemmas.Slice.Eq.{bytes_eq-Decides}
 use Rattle.epic_num.specs.declared.hop.HopName.{HopName}
 use Rattle.epic_num.specs.declared.name.AsId.{AsId}
 use Rattle.epic_num.specs.declared.name.HostId.{HostId}
@@ -13,10 +11,8 @@ use Rattle.epic_num.specs.declared.passed.Place.{Place}
 use Rattle.epic_num.specs.declared.passed.Place.TheVariants.{Router, Host}
 use Rattle.epic_num.specs.Levels.{is_timed, is_updated}
 use Rattle.epic_num.specs.Same.{same_as}
-use Rattle.epic_num.proofs.SameLaws.{same_as-Decides}
 use Rattle.epic_layout.specs.Contents.{Contents, IsPacket, hop_count, header_len}
-use Rattle.epic_layout.specs.Layout.{parse}
-use Rattle.epic_layout.specs.Route.{place, is_first, is_last, ingress, egress, body}
+use Rattle.epic_layout.specs.Route.{place, is_first, ingress, body}
 use Rattle.epic_layout.specs.Spelling.{spelling}
 use Rattle.epic_layout.proofs.Faultless.{length-spelling}
 use Rattle.epic_layout.proofs.Joins.{segments_join}
@@ -26,16 +22,16 @@ use Rattle.epic_window.specs.declared.key.WinKey.{WinKey}
 use Rattle.epic_router.specs.Checks.{is_turn, has_second, handled_hops, last_handled}
 use Rattle.epic_router.proofs.Right.{two, one, some_hops, all_there, second_is}
 use Rattle.epic_ends.specs.Ways.{IsRoad, IsMade, updates_of, on_way}
-use Rattle.epic_ends.proofs.Ways.{on_packet, on_start, length-updates, count_updated, updates_wide}
+use Rattle.epic_ends.proofs.Ways.{on_packet, length-updates, count_updated, updates_wide}
 use Rattle.epic_ledger.specs.History.{History, Emission, emission_at, emitted}
-use Rattle.epic_ledger.specs.Facts.{Pass, as_pass, packet_at, issues_in, sends_in, passes_in, reveals_in, pass_name}
+use Rattle.epic_ledger.specs.Facts.{Pass, as_pass, packet_at, issues_in, sends_in, reveals_in, pass_name}
 use Rattle.epic_ledger.specs.Lawful.{Fits, IsLawful}
 use Rattle.epic_ledger.specs.declared.event.Event.{Event}
 use Rattle.epic_ledger.specs.declared.event.Event.TheVariants as event
 use Rattle.epic_ledger.proofs.Growing.{emission_at-append, packet_at-append}
 use Rattle.epic_audit.proofs.Lists.{answered}
-use Rattle.epic_model.specs.Carried.{IsReady, NoOtherPassed}
-use Rattle.epic_model.specs.Honest.{Honest, count_below, is_turn_at}
+use Rattle.epic_model.specs.Carried.{NoOtherPassed}
+use Rattle.epic_model.specs.Honest.{count_below, is_turn_at}
 use Rattle.epic_model.specs.Passing.{rolls, passes_from}
 use Rattle.epic_model.specs.Windows.{router_entry, router_window, host_window}
 use Rattle.epic_router.specs.Remembering.{key_at}
@@ -43,7 +39,7 @@ use Rattle.epic_model.proofs.Counting.{count_turn}
 use Rattle.epic_model.proofs.Grown.{parse-spelling, emission_next, packet_next, passes_at}
 use Rattle.epic_model.proofs.Longer.{IsThere, AreThere, longer, same_rolls, same_issues, same_reveals, same_host_window, same_sends, emitted_more, window_more, seen_more, count_more, keys_differ, one_entry, at_front, at_back, pass_stays}
 use Rattle.epic_model.proofs.Once.{second_no_turn, turn_by_route, pass_entry, no_entry}
-use Rattle.epic_model.proofs.Passable.{IsLastHandled, last_is}
+use Rattle.epic_model.proofs.Passable.{last_is}
 use Rattle.epic_model.proofs.Remembered.{stands}
 
 -- ---- lists of passes

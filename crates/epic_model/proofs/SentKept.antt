@@ -1,17 +1,14 @@
 -- A packet that is sent over a lawful path of ended issues is kept, and has a way.
-use Rattle.std.proofs.Common.{◌≡◌, ◌≢◌, ℕ, zero, suc, ◌+◌, ◌-◌, ◌<◌, ◌≤◌, ◌⊎◌, inl, inr, Bool, true, false, List, [], ◌∷◌, ◌++◌, length, get_or, map, Option, None, Some, refl, ap, sym, subst, ◌∙◌, ⊎_elim, arith, length-append}
-use Rattle.std.specs.Prelude.{◌==◌, IsTrue, nat_lt, slice_get, slice_index_or, option_map, unwrap_or, if◌then◌else◌}
-use Rattle.std.specs.List.{All, range_with_len}
+use Rattle.std.proofs.Common.{◌≡◌, ℕ, zero, suc, ◌+◌, ◌-◌, ◌<◌, inl, inr, true, false, List, [], ◌∷◌, length, map, Option, None, Some, refl, ap, sym, subst, ◌∙◌, arith, length-append}
+use Rattle.std.specs.Prelude.{◌==◌, IsTrue, slice_get, slice_index_or, option_map, unwrap_or}
+use Rattle.std.specs.List.{All}
 use Rattle.std.specs.Option.{option_map_or}
-use Rattle.std.proofs.lemmas.Bool.{cond-true, cond-false, cases_Bool, lt-ltb, eqb-true}
-use Rattle.std.proofs.lemmas.List.{same_lists, get_or-map, length-map}
-use Rattle.std.proofs.lemmas.List.Elements.{All-from_recursion, All-cons, All-nil}
-use Rattle.std.proofs.lemmas.List.FromFn.{length-map-range_with_len, get_or-map-range_with_len}
-use Rattle.std.proofs.lemmas.Option.{same_Some, slice_get-map, slice_get-get_or, get_or_from_slice_get, slice_get_within}
+use Rattle.std.proofs.lemmas.List.{length-map}
+use Rattle.std.proofs.lemmas.List.Elements.{All-cons, All-nil}
+use Rattle.std.proofs.lemmas.Option.{same_Some, slice_get-map, slice_get-get_or}
 use Rattle.epic_num.specs.declared.hop.HopName.{HopName}
 use Rattle.epic_num.specs.declared.name.HostId.{HostId}
 use Rattle.epic_num.specs.declared.segment.Leg.{Leg}
-use Rattle.epic_num.specs.declared.segment.SegHop.{SegHop}
 use Rattle.epic_num.specs.Chains.{Issue, issue_at, name_of, ancestor, last_names, chain, is_ended, no_name}
 use Rattle.epic_num.specs.Paths.{is_lawful, travelled, path_hops, path_start, path_end}
 use Rattle.epic_num.proofs.PathLaws.{IsPath, lawful, well_formed}
@@ -20,19 +17,18 @@ use Rattle.epic_layout.specs.declared.head.HopPlace.{HopPlace}
 use Rattle.epic_layout.specs.declared.head.SegmentHead.{SegmentHead}
 use Rattle.epic_layout.specs.Contents.{Contents, hop_count, unfilled}
 use Rattle.epic_layout.specs.PathRoutes.{head_of, route_of}
-use Rattle.epic_layout.specs.Route.{place, position, is_last}
-use Rattle.epic_layout.specs.Spelling.{update_count}
+use Rattle.epic_layout.specs.Route.{place, position}
 use Rattle.epic_topo.specs.Network.{Network}
-use Rattle.epic_fields.specs.Issues.{IsKept, IssuesKept}
-use Rattle.epic_fields.specs.PacketTags.{field_of, update_of, dest_field_of}
+use Rattle.epic_fields.specs.Issues.{IssuesKept}
+use Rattle.epic_fields.specs.PacketTags.{dest_field_of}
 use Rattle.epic_ends.specs.Sending.{no_hop, hop_of_path, name_at, packet_over, made_packet}
 use Rattle.epic_ends.specs.SentPackets.{HasFields}
 use Rattle.epic_ends.specs.Ways.{updates_of}
 use Rattle.epic_ends.proofs.Legs.{hops-cons, length_travelled}
-use Rattle.epic_ends.proofs.Made.{AtPlace, at_place, length_route, made_packets_have_fields}
+use Rattle.epic_ends.proofs.Made.{at_place, length_route, made_packets_have_fields}
 use Rattle.epic_ledger.specs.Facts.{Sent, sent_issue, sent_name}
-use Rattle.epic_audit.specs.Kept.{IsKeptHop, IsKeptSend}
-use Rattle.epic_audit.specs.Made.{sent_update, sent_updates}
+use Rattle.epic_audit.specs.Kept.{IsKeptSend}
+use Rattle.epic_audit.specs.Made.{sent_updates}
 use Rattle.epic_model.specs.Sends.{names_of, IsRouted, IsOver, AreOver, SendsAreKept}
 use Rattle.epic_model.proofs.Travelled.{named_by, same_updates}
 use Rattle.epic_beacon.specs.Segments.{name_of_hop}

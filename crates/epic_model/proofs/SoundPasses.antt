@@ -1,22 +1,19 @@
 -- Turns and arrivals keep a ledger sound, and passes of second hops beside those of first.
-use Rattle.std.proofs.Common.{◌≡◌, ◌≢◌, ℕ, zero, suc, ◌+◌, ◌-◌, ◌<◌, ◌≤◌, ◌⊎◌, inl, inr, Bool, true, false, List, [], ◌∷◌, ◌++◌, length, take, get_or, Option, None, Some, refl, ap, sym, subst, ◌∙◌, ⊎_elim, arith, add-zero, length-take, get_or-take}
-use Rattle.std.specs.Prelude.{◌==◌, slice_get, slice_index, IsSome, ⊤, bytes_eq}
-use Rattle.std.specs.List.{All}
+use Rattle.std.proofs.Common.{◌≡◌, ℕ, zero, suc, ◌+◌, ◌-◌, ◌<◌, ◌≤◌, inl, inr, Bool, true, false, List, [], ◌∷◌, ◌++◌, length, take, Option, None, Some, refl, ap, sym, subst, ◌∙◌, ⊎_elim, arith, add-zero, length-take, get_or-take}
+use Rattle.std.specs.Prelude.{slice_get, slice_index, IsSome, bytes_eq}
 use Rattle.std.specs.Option.{option_map_or}
 use Rattle.std.proofs.lemmas.Bool.{eqb-true, cases_Bool, both_ways, cond-true, and_from}
 use Rattle.std.proofs.lemmas.List.{append-nil, append_assoc}
-use Rattle.std.proofs.lemmas.List.Elements.{All-append, All-cons, All-nil, All-push}
-use Rattle.std.proofs.lemmas.Option.{same_Some, slice_get-get_or, get_or_from_slice_get, slice_get_within}
+use Rattle.std.proofs.lemmas.List.Elements.{All-push}
+use Rattle.std.proofs.lemmas.Option.{same_Some, get_or_from_slice_get, slice_get_within}
 use Rattle.epic_num.specs.declared.name.AsId.{AsId}
 use Rattle.epic_num.specs.declared.name.HostId.{HostId}
-use Rattle.epic_num.specs.declared.arrival.Arrival.{Arrival}
 use Rattle.epic_num.specs.declared.passed.Place.{Place}
 use Rattle.epic_num.specs.declared.turn.Turn.{Turn}
 use Rattle.epic_num.specs.Levels.{is_timed}
 use Rattle.epic_num.proofs.SameLaws.{same_as-Decides}
 use Rattle.epic_layout.specs.Contents.{Contents, IsPacket, hop_count}
 use Rattle.epic_layout.specs.Layout.{parse}
-use Rattle.epic_layout.specs.Reading.{IsRead}
 use Rattle.epic_layout.specs.Route.{Route, place, is_first, is_last, ingress, egress, successor, hop, body}
 use Rattle.epic_layout.specs.Spelling.{spelling}
 use Rattle.epic_layout.proofs.OneSpelling.{packets_are_spelled}
@@ -24,12 +21,12 @@ use Rattle.epic_topo.specs.Network.{Network, has}
 use Rattle.epic_fields.specs.HopChecks.{hop_name, carries_link, has_link}
 use Rattle.epic_fields.specs.Tags.{link}
 use Rattle.epic_router.specs.Candidates.{candidates_of}
-use Rattle.epic_router.specs.Checks.{is_turn, handled_hops}
+use Rattle.epic_router.specs.Checks.{is_turn}
 use Rattle.epic_router.specs.Leaving.{packet_after}
 use Rattle.epic_router.specs.RightTurns.{IsAccepted, IsRightHop}
-use Rattle.epic_ledger.specs.History.{History, Emission, emission_at, step_of}
-use Rattle.epic_ledger.specs.Facts.{Pass, facts_of, issues_in, packet_at, pass_name}
-use Rattle.epic_ledger.specs.Lawful.{IsEmission, FitsPass, IsLast, IsLawful}
+use Rattle.epic_ledger.specs.History.{History, Emission, step_of}
+use Rattle.epic_ledger.specs.Facts.{Pass, packet_at, pass_name}
+use Rattle.epic_ledger.specs.Lawful.{IsEmission, FitsPass, IsLast}
 use Rattle.epic_ledger.specs.declared.event.Event.{Event}
 use Rattle.epic_ledger.specs.declared.event.Event.TheVariants as event
 use Rattle.epic_ledger.specs.OneMore.{with_event, with_emission}
@@ -37,14 +34,14 @@ use Rattle.epic_ledger.proofs.Growing.{packet_at-append}
 use Rattle.epic_audit.specs.Kept.{IsKeptPass, Kept}
 use Rattle.epic_audit.proofs.Growth.{events_are_lawful, emissions_are_lawful, emissions_add_nothing}
 use Rattle.epic_audit.proofs.Keeping.{events_keep}
-use Rattle.epic_model.specs.Passing.{rolls, passes_from, left, arrives, turned_at, arrived_at}
+use Rattle.epic_model.specs.Passing.{rolls, passes_from, left, arrives}
 use Rattle.epic_model.specs.Sound.{IsSound, TurnsAreSound, ArrivalsAreSound}
-use Rattle.epic_model.specs.Twice.{Passes, PassesFirst, BeginWell, NoTwoEmissions, NoneTwiceByEmissions, TurnsBeginWell}
-use Rattle.epic_model.specs.Windows.{router_entry, router_window, NoneTwice}
+use Rattle.epic_model.specs.Twice.{Passes, PassesFirst, BeginWell, NoneTwiceByEmissions, TurnsBeginWell}
+use Rattle.epic_model.specs.Windows.{router_entry, router_window}
 use Rattle.epic_router.specs.Remembering.{key_at}
 use Rattle.epic_window.specs.Entries.{told_of}
 use Rattle.epic_model.proofs.Grown.{parse-spelling, emission_next, packet_next}
-use Rattle.epic_model.proofs.Longer.{IsThere, AreThere, at_front, at_back}
+use Rattle.epic_model.proofs.Longer.{AreThere, at_front, at_back}
 use Rattle.epic_model.proofs.Once.{after_turn, after_arrival, turn_by_route}
 use Rattle.epic_model.proofs.Riding.{front_or_back, passed_under, lawful_there}
 

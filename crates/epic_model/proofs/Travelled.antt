@@ -1,36 +1,36 @@
 -- The way of a packet that was sent over issues that are kept.
-use Rattle.std.proofs.Common.{◌≡◌, ◌≢◌, ℕ, zero, suc, ◌+◌, ◌-◌, ◌<◌, ◌≤◌, ◌⊎◌, inl, inr, Bool, true, false, List, [], ◌∷◌, length, Option, None, Some, refl, ap, sym, subst, ◌∙◌, ⊎_elim, arith}
+use Rattle.std.proofs.Common.{◌≡◌, ℕ, suc, ◌+◌, ◌-◌, ◌<◌, ◌≤◌, inl, inr, Bool, true, false, List, [], length, Option, None, Some, refl, ap, sym, subst, ◌∙◌, ⊎_elim, arith}
 use Rattle.std.specs.Prelude.{◌==◌, nat_lt, slice_index_or, unwrap_or, option_map, map, if◌then◌else◌}
 use Rattle.std.specs.List.{range_with_len}
 use Rattle.std.proofs.lemmas.List.{same_lists}
 use Rattle.std.proofs.lemmas.List.FromFn.{length-map-range_with_len, get_or-map-range_with_len}
 use Rattle.std.specs.Bool.{MatchBool}
 use Rattle.std.specs.Option.{option_map_or, IfSome}
-use Rattle.std.proofs.lemmas.Bool.{cond-true, cond-false, cond_both, cases_Bool, cases_lt, lt-ltb, le-ltb, eq-eqb, ne_eqb, eqb-true, eqb-false, MatchBool-at_true, MatchBool-at_false, cases_eq}
+use Rattle.std.proofs.lemmas.Bool.{cond-true, cond-false, cond_both, cases_Bool, lt-ltb, le-ltb, eq-eqb, ne_eqb, eqb-true, eqb-false, MatchBool-at_true, MatchBool-at_false}
 use Rattle.std.proofs.lemmas.Option.{same_Some}
 use Rattle.epic_num.specs.declared.hop.HopName.{HopName}
 use Rattle.epic_num.specs.declared.name.AsId.{AsId}
 use Rattle.epic_num.specs.Chains.{Issue, issue_at, name_of, ancestor, is_ended, no_name}
-use Rattle.epic_num.specs.Levels.{is_tagged, level_of, level_number}
+use Rattle.epic_num.specs.Levels.{level_of, level_number}
 use Rattle.epic_num.proofs.ChainNames.{ancestor_more}
 use Rattle.epic_layout.specs.declared.head.HopPlace.{HopPlace}
 use Rattle.epic_layout.specs.declared.head.SegmentHead.{SegmentHead}
 use Rattle.epic_layout.specs.Spelling.{update_count}
 use Rattle.epic_layout.specs.Contents.{Contents, IsPacket, hop_count, field}
 use Rattle.epic_layout.specs.Laws.{Follows}
-use Rattle.epic_layout.specs.Route.{place, position, is_first, is_last, successor, ingress, egress, hop, body, body_at, hops_of}
+use Rattle.epic_layout.specs.Route.{place, position, is_first, is_last, successor, ingress, egress, hop, body, hops_of}
 use Rattle.epic_layout.proofs.HopPlaces.{places_are_one, neighbours_follow}
 use Rattle.epic_layout.proofs.Joins.{segments_join, successors_follow}
 use Rattle.epic_topo.specs.declared.link_kind.LinkKind.{LinkKind}
 use Rattle.epic_topo.specs.Lawful.{IsLinked, LinksLeadBack}
 use Rattle.epic_topo.specs.Network.{Network, neighbour, turned}
-use Rattle.epic_fields.specs.Issues.{IsRoot, IsChild, IsKept, IssuesKept}
+use Rattle.epic_fields.specs.Issues.{IssuesKept}
 use Rattle.epic_fields.specs.PacketTags.{field_of, update_of, dest_field_of}
 use Rattle.epic_fields.specs.Tags.{link}
 use Rattle.epic_ends.specs.Ways.{Leads, IsRoad, IsMade, updates_of}
 use Rattle.epic_ledger.specs.Facts.{Sent, sent_issue, sent_name}
 use Rattle.epic_audit.specs.Clauses.{GoesOnFrom, higher, lower}
-use Rattle.epic_audit.specs.Kept.{IsKeptHop, IsKeptSend}
+use Rattle.epic_audit.specs.Kept.{IsKeptSend}
 use Rattle.epic_audit.specs.Made.{sent_update, sent_updates}
 use Rattle.epic_model.specs.Sends.{names_of, IsRouted, SentPacketsHaveRoads}
 

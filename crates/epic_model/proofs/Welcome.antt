@@ -1,22 +1,20 @@
 -- The verdicts on a packet that its source sent, on its way.
-use Rattle.std.proofs.Common.{◌≡◌, ◌≢◌, ℕ, zero, suc, ◌+◌, ◌-◌, ◌<◌, ◌≤◌, ◌⊎◌, inl, inr, Bool, true, false, not, List, [], ◌∷◌, ◌++◌, length, map, Option, None, Some, refl, ap, sym, subst, ◌∙◌, ⊎_elim, arith}
-use Rattle.std.specs.Prelude.{◌==◌, ◌&&◌, ◌||◌, find, slice_get, option_map, option_and_then, IsSome, if◌then◌else◌}
+use Rattle.std.proofs.Common.{◌≡◌, ℕ, zero, suc, ◌+◌, ◌-◌, ◌<◌, Bool, true, false, not, List, [], ◌∷◌, Option, None, Some, refl, ap, sym, subst, ◌∙◌, arith}
+use Rattle.std.specs.Prelude.{◌||◌, find, slice_get, option_map, option_and_then, IsSome, if◌then◌else◌}
 use Rattle.std.specs.List.{list_any, range_with_len}
 use Rattle.std.specs.Option.{option_map_or}
-use Rattle.std.proofs.lemmas.Bool.{or_left, or_right, or_cases, cond-true, cond-false, not_from_true, cases_Bool}
+use Rattle.std.proofs.lemmas.Bool.{or_left, or_right, cond-false, not_from_true}
 use Rattle.std.proofs.lemmas.Option.{same_Some}
 use Rattle.epic_num.specs.declared.hop.HopName.{HopName}
 use Rattle.epic_num.specs.declared.key_name.Holder.TheVariants.{As, Host}
 use Rattle.epic_num.specs.declared.key_name.KeyName.{KeyName}
 use Rattle.epic_num.specs.declared.verdict.Verdict.{Verdict}
-use Rattle.epic_num.specs.declared.verdict.Verdict.TheVariants.{Proved}
-use Rattle.epic_num.specs.Chains.{Issue}
 use Rattle.epic_num.specs.Levels.{is_tagged, is_updated}
 use Rattle.epic_layout.specs.Contents.{Contents, hop_count}
 use Rattle.epic_layout.specs.Route.{place, is_first}
 use Rattle.epic_topo.specs.Network.{Network}
 use Rattle.epic_ledger.specs.Facts.{Facts, Sent, Pass, pass_name, sent_name}
-use Rattle.epic_ledger.specs.Queries.{issue_of, is_pass_of, same_path, chain_pass, is_on_path}
+use Rattle.epic_ledger.specs.Queries.{issue_of, is_pass_of}
 use Rattle.epic_audit.specs.Clauses.{GoesOnFrom, higher, lower, IsChained, is_sent_like, is_sent_as, sent_as}
 use Rattle.epic_audit.specs.declared.uncovered.Uncovered.{Uncovered}
 use Rattle.epic_audit.specs.Reveals.{is_revealed}

@@ -1,5 +1,5 @@
 -- A packet that is carried to its destination and accepted there.
-use Rattle.std.specs.Prelude.{◌≡◌, ◌≢◌, ℕ, ◌<◌, true, false, if◌then◌else◌, List, [], ◌∷◌, slice_get, Some}
+use Rattle.std.specs.Prelude.{◌≡◌, ℕ, ◌<◌, true, false, if◌then◌else◌, List, [], ◌∷◌, slice_get, Some}
 use Rattle.epic_num.specs.declared.arrival.Arrival.{Arrival}
 use Rattle.epic_num.specs.declared.arrival.Arrival.TheVariants.{Accepted, Unchecked}
 use Rattle.epic_num.specs.declared.hop.HopName.{HopName}

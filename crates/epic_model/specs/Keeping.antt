@@ -1,5 +1,5 @@
 -- What the ledger of every state keeps, so that honest packets arrive, and that all that happens keeps it.
-use Rattle.std.specs.Prelude.{◌≡◌, ℕ, ◌+◌, ◌*◌, ◌/◌, ◌<◌, ◌≤◌, ◌^◌, true, max, if◌then◌else◌, List, [], ◌∷◌, ◌++◌, length, map, Option, None, Some, Ok, Result, slice_get}
+use Rattle.std.specs.Prelude.{◌≡◌, ℕ, ◌+◌, ◌*◌, ◌/◌, ◌<◌, ◌≤◌, ◌^◌, true, max, if◌then◌else◌, List, [], ◌∷◌, ◌++◌, length, map, Option, None, Some, Ok, slice_get}
 use Rattle.std.specs.List.{All}
 use Rattle.std.specs.Option.{option_map_or}
 use Rattle.arrayvec.specs.ArrayVec.{ArrayVec}
@@ -32,7 +32,7 @@ use Rattle.epic_beacon.specs.Told.{beacons_in}
 use Rattle.epic_path.specs.Joins.{joined}
 use Rattle.epic_ends.specs.Admitting.{next_ts}
 use Rattle.epic_ends.specs.Sending.{sent_packet}
-use Rattle.epic_ledger.specs.History.{History, Emission, emission_at}
+use Rattle.epic_ledger.specs.History.{History, emission_at}
 use Rattle.epic_ledger.specs.Facts.{Sent, issues_in, sends_in, reveals_in}
 use Rattle.epic_ledger.specs.OneMore.{with_event}
 use Rattle.epic_ledger.specs.declared.event.Event.TheVariants as event

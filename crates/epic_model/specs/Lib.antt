@@ -1,8 +1,13 @@
 pub mod Carried
 pub mod Honest
+pub mod Judged
 pub mod Keeping
 pub mod Passing
 pub mod Sends
 pub mod Sound
+pub mod State
+pub mod Steps
+pub mod Traces
 pub mod Twice
 pub mod Windows
+pub mod World

@@ -3,6 +3,7 @@ ghost use Rattle.epic_model.specs.Carried.{HonestPacketsAreProved, HonestPackets
 ghost use Rattle.epic_model.specs.Keeping.{HonestSendsAreProved, HonestSendsArrive, InvArrivals, InvCarries, InvIssues, InvLater, InvOthers, InvPasses, InvSends, InvStart, InvTurns, InvTwice, NextIsUnsent, SomeSendIsHonest};
 ghost use Rattle.epic_model.specs.Sends.{SendsAreKept, SentPacketsHaveRoads};
 ghost use Rattle.epic_model.specs.Sound.{ArrivalsAreSound, TurnsAreSound};
+ghost use Rattle.epic_model.specs.World.{HonestCarriesArrive, HonestCarriesAreProved, VerdictsAreRight, WorldsGoOn, WorldsStart};
 ghost use Rattle.epic_model.specs.Twice.{ArrivalsStayOnce, NoneTwiceByEmissions, NothingTwice, TurnsBeginWell, TurnsStayOnce};
 
 /// A law: with nothing in it a ledger remembers nothing twice, and neither turns nor arrivals put anything twice into it.
@@ -71,4 +72,23 @@ pub fn timestamps_are_new()
 /// A law: there is a ledger that keeps all this, with a packet that was sent and is honest, so that the laws above speak of something.
 pub fn some_send_is_honest()
     ensures { SomeSendIsHonest }
+{}
+
+/// A law: every state that steps lead to keeps what ledgers keep, so that the laws above hold of it.
+pub fn worlds_go_on()
+    ensures start { WorldsStart }
+    ensures steps { WorldsGoOn }
+{}
+
+/// A law: every verdict of every passage of a step is Proved exactly where the provenance stands in the ledger before the passage,
+/// and is always true; and the answer tells each passage.
+pub fn verdicts_are_right()
+    ensures { VerdictsAreRight }
+{}
+
+/// A law: the step that carries the emission of a packet that was sent, at a moment at which it is honest, brings it to its
+/// destination, which takes it.
+pub fn honest_carries_arrive()
+    ensures arrive { HonestCarriesArrive }
+    ensures proved { HonestCarriesAreProved }
 {}
