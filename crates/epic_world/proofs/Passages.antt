@@ -23,7 +23,7 @@ use Rattle.epic_ledger.specs.declared.event.Event.TheVariants as event
 use Rattle.epic_audit.specs.Events.{EventsKeep, EmissionsAddNothing, EmissionsAreLawful}
 use Rattle.epic_ledger.specs.OneMore.{with_emission}
 use Rattle.epic_audit.specs.Kept.{IsKeptPass, Kept}
-use Rattle.epic_audit.proofs.Recording.{newest, newest_there, newest_packet}
+use Rattle.epic_audit.proofs.Recording.{newest_there, newest_packet}
 use Rattle.epic_world.specs.State.{is_roll, as_fetch}
 use Rattle.epic_world.specs.Refining.{Refines}
 use Rattle.epic_world.specs.Turning.{most_emitted}

@@ -1,6 +1,6 @@
 -- The segments of a store, one number at a time, and what is asked of them.
 use Rattle.std.proofs.Common.{◌≡◌, ◌≢◌, ℕ, zero, suc, ◌+◌, ◌<◌, ◌==◌, Bool, true, false, List, [], ◌∷◌, ◌++◌, length, map, refl, sym, ◌∙◌, ap, subst, arith, inl, inr}
-use Rattle.std.specs.Prelude.{Option, None, Some, All, IsTrue, Result, Ok, Err, is_ok, cond, filter, nat_eq}
+use Rattle.std.specs.Prelude.{Option, All, IsTrue, Result, Ok, Err, is_ok, cond, filter, nat_eq}
 use Rattle.std.specs.List.{AllByRecursion, IsDistinct, range_with_len, cons_option}
 use Rattle.std.specs.Option.{option_map_or}
 use Rattle.std.specs.Result.{result_ok}
@@ -8,13 +8,13 @@ use Rattle.std.proofs.lemmas.Bool.Decides.{eqb_tells}
 use Rattle.std.proofs.lemmas.List.{map-id}
 use Rattle.std.proofs.lemmas.List.Elements.{All-cons, All-nil}
 use Rattle.std.proofs.lemmas.List.FromFn.{map-range_with_len_more}
-use Rattle.epic_num.specs.Segments.{is_well_formed, last_hop}
+use Rattle.epic_num.specs.Segments.{is_well_formed}
 use Rattle.epic_num.specs.declared.segment.SegHop.{SegHop}
 use Rattle.epic_num.specs.declared.segment.Segment.{Segment}
 use Rattle.epic_path.specs.Routes.{last_issue}
 use Rattle.epic_beacon.specs.Chained.{AreChained}
 use Rattle.epic_beacon.specs.Laws.{SegmentsAreChains}
-use Rattle.epic_beacon.specs.Segments.{IsSegment, segment, segments_at, segments}
+use Rattle.epic_beacon.specs.Segments.{segment, segments_at, segments}
 use Rattle.epic_beacon.specs.declared.beacon.Beacon.{Beacon}
 use Rattle.epic_beacon.specs.declared.segment.SegmentError.{SegmentError}
 use Rattle.epic_world.proofs.Refined.{none_more, one_more}
