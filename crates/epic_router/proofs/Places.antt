@@ -11,3 +11,7 @@ use Rattle.epic_layout.proofs.Soundness.{checked_sound}
 pub current_parse : {X : Type 0} (b : List ℕ) (x y : X) → Ok x ≡ unless (fault is_first_byte b) y → (parse b).current ≤ hop_count (parse b)
 unfolding parse
 current_parse b x y e = omega (arith, (checked_sound b x y e).current, hop_count_parse b)
+
+-- and there are few of them
+pub few_hops_parse : {X : Type 0} (b : List ℕ) (x y : X) → Ok x ≡ unless (fault is_first_byte b) y → hop_count (parse b) ≤ 32
+few_hops_parse b x y e = omega (arith, (checked_sound b x y e).few_hops, hop_count_parse b)

@@ -1,8 +1,13 @@
+pub mod Acceptance
 pub mod Accepted
+pub mod Blocks
 pub mod Candidates
 pub mod Checks
 pub mod Handling
 pub mod Leaving
+pub mod Passing
+pub mod Ready
 pub mod Remembering
 pub mod RightTurns
+pub mod Routers
 pub mod Turns
