@@ -1,3 +1,4 @@
 mod Iterated
 mod Numbers
+mod Routing
 mod Travels

@@ -1,3 +1,4 @@
+pub mod Routed
 pub mod Turns
 pub mod Works
 pub mod Tasks

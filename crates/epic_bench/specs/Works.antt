@@ -10,7 +10,9 @@ use Rattle.epic_topo.specs.Reading.{topology}
 use Rattle.epic_bench.specs.declared.way.TheConstants.{CHAIN}
 use Rattle.epic_bench.specs.declared.work.TheConstants.{KEY}
 use Rattle.epic_bench.specs.declared.work.Work.{Work}
-use Rattle.epic_bench.specs.declared.work.Work.TheVariants.{Aes, Cmac, Short, Turn}
+use Rattle.epic_bench.specs.declared.work.Work.TheVariants.{Aes, Cmac, Short, Turn, Routed}
+use Rattle.epic_num.specs.declared.hop.Level.TheVariants.{L0, L1, L2, L3}
+use Rattle.epic_bench.specs.Routed.{IsRoutedDigest}
 use Rattle.epic_bench.specs.Turns.{turns_digest}
 
 -- a message of so many bytes, which count up from the seed modulo 256
@@ -33,6 +35,7 @@ IsDigest Cmac rounds digest = digest ≡ tagged 1500 rounds
 IsDigest Short rounds digest = digest ≡ tagged 27 rounds
 IsDigest Turn rounds digest =
     (t : Network) × (topology CHAIN.now ≡ Ok t) × ((packet : List ℕ) × (digest ≡ turns_digest t packet rounds))
+IsDigest (Routed level) rounds digest = IsRoutedDigest rounds digest
 
 -- how many operations a round has
 abbrev pub operations_a_round : Work → ℕ
@@ -40,6 +43,7 @@ operations_a_round Aes = 64
 operations_a_round Cmac = 1
 operations_a_round Short = 1
 operations_a_round Turn = 8
+operations_a_round (Routed level) = 1
 
 abbrev pub operations : Work → ℕ → ℕ
 operations work rounds = operations_a_round work * rounds
@@ -50,6 +54,10 @@ name_of Aes = codes "aes"
 name_of Cmac = codes "cmac"
 name_of Short = codes "short"
 name_of Turn = codes "turn"
+name_of (Routed L0) = codes "turn0"
+name_of (Routed L1) = codes "turn1"
+name_of (Routed L2) = codes "turn2"
+name_of (Routed L3) = codes "turn3"
 
 -- what its operations are called
 abbrev pub unit_of : Work → List ℕ
@@ -57,3 +65,4 @@ unit_of Aes = codes "blocks"
 unit_of Cmac = codes "messages"
 unit_of Short = codes "messages"
 unit_of Turn = codes "turns"
+unit_of (Routed level) = codes "turns"

@@ -2,6 +2,7 @@
 #![tactic(auto)]
 
 mod report;
+mod routed;
 #[cfg(test)]
 mod tests;
 mod top;

@@ -11,8 +11,8 @@ ghost use Rattle.epic_bench.specs.Works.{IsDigest};
 use crate::top::End;
 use crate::words::Request;
 use crate::work::{Task, Work};
+use epic_num::Level;
 use std::alloc::{AllocError, Global};
-use std::io;
 use std::rt::Clock;
 use std::time::Instant;
 
@@ -50,8 +50,8 @@ fn digest_line(alloc: Global, work: Work, rounds: u32) -> Result<String, End>
     ensures ok { IfOk result (λ text. IsLine work rounds (string_bytes text)) }
     ensures err { IfErr result (IsUnready work) }
 {
-    let mut task = Task::new(alloc, work)?;
-    let digest = task.run(rounds);
+    let mut task = Task::new(alloc, work, rounds)?;
+    let digest = task.run(rounds)?;
     Ok(line(alloc, work, rounds, &digest, "")?)
 }
 
@@ -64,16 +64,26 @@ fn digest_lines(alloc: Global, rounds: u32) -> Result<String, End>
     let cmac = digest_line(alloc, Work::Cmac, rounds)?;
     let short = digest_line(alloc, Work::Short, rounds)?;
     let turn = digest_line(alloc, Work::Turn, rounds)?;
-    Ok(format!(in alloc; "{aes}{cmac}{short}{turn}")?)
+    let level_0 = digest_line(alloc, Work::Routed(Level::L0), rounds)?;
+    let level_1 = digest_line(alloc, Work::Routed(Level::L1), rounds)?;
+    let level_2 = digest_line(alloc, Work::Routed(Level::L2), rounds)?;
+    let level_3 = digest_line(alloc, Work::Routed(Level::L3), rounds)?;
+    let levels = format!(in alloc; "{level_0}{level_1}{level_2}{level_3}")?;
+    Ok(format!(in alloc; "{aes}{cmac}{short}{turn}{levels}")?)
 }
 
 /// The digest of a work, and how many nanoseconds its rounds took.
-fn timed(rt: &impl Clock, task: &mut Task, rounds: u32) -> io::Result<([u8; 16], u64)>
-    ensures { IfOk result (λ answer. IsDigest (work_of_task task.old) rounds answer.0) }
+fn timed(rt: &impl Clock, task: &mut Task, rounds: u32) -> Result<([u8; 16], u64), End>
+    ensures ok { IfOk result (λ answer. IsDigest (work_of_task task.old) rounds answer.0) }
+    ensures err { IfErr result (GivesNothing (Request.Time (work_of_task task.old) rounds)) }
 {
-    let start = Instant::now(rt)?;
-    let digest = task.run(rounds);
-    let time = start.elapsed(rt)?;
+    let Ok(start) = Instant::now(rt) else {
+        return Err(End::NoClock);
+    };
+    let digest = task.run(rounds)?;
+    let Ok(time) = start.elapsed(rt) else {
+        return Err(End::NoClock);
+    };
     Ok((digest, u64::try_from(time.as_nanos()).unwrap_or(u64::MAX)))
 }
 
@@ -83,11 +93,8 @@ fn timed_line<R: Clock + AllocGlobal>(rt: &R, work: Work, rounds: u32) -> Result
     ensures ok { IfOk result (λ text. IsTimedLine work rounds (string_bytes text)) }
     ensures err { IfErr result (GivesNothing (Request.Time work rounds)) }
 {
-    let mut task = Task::new(rt.alloc(), work)?;
-    let Ok(answer) = timed(rt, &mut task, rounds) else {
-        return Err(End::NoClock);
-    };
-    let (digest, nanos) = answer;
+    let mut task = Task::new(rt.alloc(), work, rounds)?;
+    let (digest, nanos) = timed(rt, &mut task, rounds)?;
     let time = time_text(rt.alloc(), nanos, work.operations(rounds))?;
     Ok(line(rt.alloc(), work, rounds, &digest, time.as_str())?)
 }

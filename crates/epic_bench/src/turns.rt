@@ -24,7 +24,7 @@ fn rewind(packet: &mut [u8])
 }
 
 /// 1 for a packet that goes on, else 0.
-fn accepted_by(answer: &Turn) -> u64
+pub(crate) fn accepted_by(answer: &Turn) -> u64
     ensures value { result ≡ accepted_by answer.now }
     ensures bound { result ≤ 1 }
 {
@@ -50,7 +50,7 @@ fn pass(topo: &Topology, packet: &mut [u8]) -> u64
 
 /// The tag of how many turns accepted the packet, and of the packet as it was left.
 #[tactic(auto, unfolding(epic_num::specs::BigEndian::u64_bytes))]
-fn digest(accepted: u64, packet: &[u8]) -> [u8; 16]
+pub(crate) fn digest(accepted: u64, packet: &[u8]) -> [u8; 16]
     ensures { result ≡ cmac KEY (u64_bytes accepted ++ packet.now) }
 {
     let mut state = CmacState::start(&KEY);

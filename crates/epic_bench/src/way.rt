@@ -17,7 +17,8 @@ use epic_topo::{TopoError, Topology, read_topology};
 use std::alloc::{AllocError, Global};
 
 /// Eight ASes, each the parent of the next.
-pub(crate) const CHAIN: &[u8] = b"as = [\n\
+pub(crate) const CHAIN: &[u8] = b"profile = { window = 65536 }\n\
+    as = [\n\
       { name = '1-1', core = true, key = '01010101010101010101010101010101' },\n\
       { name = '1-2', key = '02020202020202020202020202020202' },\n\
       { name = '1-3', key = '03030303030303030303030303030303' },\n\
@@ -102,7 +103,7 @@ pub(crate) struct Way {
 }
 
 /// The chain's topology.
-fn chain(alloc: Global) -> Result<Topology, End>
+pub(crate) fn chain(alloc: Global) -> Result<Topology, End>
     ensures ok { IfOk result (λ topo. topology CHAIN.now ≡ Ok topo) }
     ensures err { IfErr result MakesNothing }
 {
@@ -114,7 +115,7 @@ fn chain(alloc: Global) -> Result<Topology, End>
 }
 
 /// Whether all ASes of the chain are in the topology.
-fn has_all(topo: &Topology) -> bool
+pub(crate) fn has_all(topo: &Topology) -> bool
     ensures { result ≡ list_all (λ step. has topo.now step.asn) STEPS }
 {
     STEPS.iter().all(|step| topo.has(step.asn))
@@ -131,7 +132,7 @@ fn unissued(error: BeaconError) -> End
 }
 
 /// The segment down the chain.
-fn segment(alloc: Global, topo: &Topology) -> Result<Segment, End>
+pub(crate) fn segment(alloc: Global, topo: &Topology) -> Result<Segment, End>
     requires { IsTrue (has topo.now FIRST) }
     ensures { IfErr result MakesNothing }
 {
@@ -163,8 +164,13 @@ fn packet_hop(hop: &SegHop) -> PacketHop {
     }
 }
 
-/// A packet of level 0 down the segment, from a host of its first AS to one of its last.
-fn packet(alloc: Global, segment: &Segment) -> Result<Vec<u8>, End>
+/// A packet of a level down the segment, from a host of its first AS to one of its last. Its fields are those of level 0.
+pub(crate) fn packet(
+    alloc: Global,
+    segment: &Segment,
+    level: Level,
+    payload: &[u8],
+) -> Result<Vec<u8>, End>
     ensures { IfErr result MakesNothing }
 {
     let mut hops = ArrayVec::new();
@@ -180,7 +186,7 @@ fn packet(alloc: Global, segment: &Segment) -> Result<Vec<u8>, End>
     segments.push(segment).map_err(AllocError::from)?;
     let packet = Packet {
         version: 1,
-        level: Level::L0,
+        level,
         current: 0,
         src: HostId {
             asn: STEPS[0].asn,
@@ -193,7 +199,7 @@ fn packet(alloc: Global, segment: &Segment) -> Result<Vec<u8>, End>
         ts: NOW,
         segments: Segments::from_vec(segments),
         dest_field: [0; 16],
-        payload: Bytes::from_vec(Vec::new(alloc)),
+        payload: Bytes::from_vec(payload.to_vec(alloc)?),
     };
     if !is_valid(&packet) {
         return Err(End::NoPacket);
@@ -211,7 +217,7 @@ impl Way {
             return Err(End::NoPacket);
         }
         let segment = segment(alloc, &topo)?;
-        let packet = packet(alloc, &segment)?;
+        let packet = packet(alloc, &segment, Level::L0, &[])?;
         Ok(Way { topo, packet })
     }
 }

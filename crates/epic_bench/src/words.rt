@@ -5,7 +5,7 @@ ghost use Rattle.std.specs.String.{string_bytes};
 ghost use Rattle.epic_bench.specs.Request.{HasRounds, request_of, rounds_of, work_of};
 
 use crate::work::Work;
-use epic_num::read_number;
+use epic_num::{Level, read_number};
 
 /// What the words ask for.
 #[derive(Clone, Copy, Debug)]
@@ -43,6 +43,10 @@ fn work(word: &str) -> Option<Work>
         "cmac" => Some(Work::Cmac),
         "short" => Some(Work::Short),
         "turn" => Some(Work::Turn),
+        "turn0" => Some(Work::Routed(Level::L0)),
+        "turn1" => Some(Work::Routed(Level::L1)),
+        "turn2" => Some(Work::Routed(Level::L2)),
+        "turn3" => Some(Work::Routed(Level::L3)),
         _ => None,
     }
 }

@@ -6,13 +6,16 @@ ghost use Rattle.epic_aes.specs.Chain.{chain};
 ghost use Rattle.epic_cmac.specs.Cmac.{cmac};
 ghost use Rattle.epic_bench.specs.Run.{IsUnready};
 ghost use Rattle.epic_bench.specs.Tasks.{work_of_task};
+ghost use Rattle.epic_bench.specs.declared.top.End.TheVariants.{OutOfMemory};
 ghost use Rattle.epic_bench.specs.Works.{IsDigest, chained, message, name_of, operations, tagged, unit_of};
 
+use crate::routed::Routed;
 use crate::top::End;
 use crate::turns::turn_rounds;
 use crate::way::Way;
 use epic_aes::Aes;
 use epic_cmac::cmac;
+use epic_num::Level;
 use std::alloc::Global;
 
 /// What is measured.
@@ -26,6 +29,8 @@ pub(crate) enum Work {
     Short,
     /// Turns of the eight routers on the way of a packet of level 0.
     Turn,
+    /// Turns of one router, of a packet of a level each.
+    Routed(Level),
 }
 
 /// The key of the chain, and the value that each work begins with: the key of the examples of RFC 4493 4.
@@ -43,6 +48,10 @@ impl Work {
             Work::Cmac => "cmac",
             Work::Short => "short",
             Work::Turn => "turn",
+            Work::Routed(Level::L0) => "turn0",
+            Work::Routed(Level::L1) => "turn1",
+            Work::Routed(Level::L2) => "turn2",
+            Work::Routed(Level::L3) => "turn3",
         }
     }
 
@@ -53,7 +62,7 @@ impl Work {
         match self {
             Work::Aes => "blocks",
             Work::Cmac | Work::Short => "messages",
-            Work::Turn => "turns",
+            Work::Turn | Work::Routed(_) => "turns",
         }
     }
 
@@ -63,7 +72,7 @@ impl Work {
     {
         let each = match self {
             Work::Aes => 64,
-            Work::Cmac | Work::Short => 1,
+            Work::Cmac | Work::Short | Work::Routed(_) => 1,
             Work::Turn => 8,
         };
         each * u64::from(rounds)
@@ -135,11 +144,12 @@ pub(crate) enum Task {
     Cmac,
     Short,
     Turn(Way),
+    Routed(Level, Routed),
 }
 
 impl Task {
-    /// Makes a work ready.
-    pub(crate) fn new(alloc: Global, work: Work) -> Result<Task, End>
+    /// Makes a work ready for so many rounds.
+    pub(crate) fn new(alloc: Global, work: Work, rounds: u32) -> Result<Task, End>
         ensures ok { IfOk result (λ task. work_of_task task ≡ work) }
         ensures err { IfErr result (IsUnready work) }
     {
@@ -148,18 +158,21 @@ impl Task {
             Work::Cmac => Ok(Task::Cmac),
             Work::Short => Ok(Task::Short),
             Work::Turn => Ok(Task::Turn(Way::new(alloc)?)),
+            Work::Routed(level) => Ok(Task::Routed(level, Routed::new(alloc, level, rounds)?)),
         }
     }
 
     /// Does so many rounds, and gives their digest.
-    pub(crate) fn run(&mut self, rounds: u32) -> [u8; 16]
-        ensures { IsDigest (work_of_task self.old) rounds result }
+    pub(crate) fn run(&mut self, rounds: u32) -> Result<[u8; 16], End>
+        ensures ok { IfOk result (IsDigest (work_of_task self.old) rounds) }
+        ensures err { IfErr result (λ end. end ≡ OutOfMemory) }
     {
         match self {
-            Task::Aes => aes_value(rounds),
-            Task::Cmac => cmac_value(rounds),
-            Task::Short => short_value(rounds),
-            Task::Turn(way) => turn_rounds(&way.topo, &mut way.packet, rounds),
+            Task::Aes => Ok(aes_value(rounds)),
+            Task::Cmac => Ok(cmac_value(rounds)),
+            Task::Short => Ok(short_value(rounds)),
+            Task::Turn(way) => Ok(turn_rounds(&way.topo, &mut way.packet, rounds)),
+            Task::Routed(_, routed) => routed.run(rounds),
         }
     }
 }
