@@ -3,6 +3,7 @@
 
 mod editing;
 mod frame;
+mod order;
 mod packet_ref;
 mod packet_view;
 mod places;

@@ -1,5 +1,7 @@
 //! A packet that is read where its bytes lie.
-ghost use Rattle.std.specs.Prelude.{◌≡◌, ◌<◌, ◌↔◌, Ok, IsTrue, length, slice_index_or};
+ghost use Rattle.std.specs.Prelude.{◌≡◌, ◌<◌, ◌↔◌, Ok, IsTrue, length, slice_index_or, bytes_eq};
+ghost use Rattle.std.specs.Cmp.Lexicographic.{slice_cmp};
+ghost use Rattle.std.specs.Ordering.{is_eq, nat_cmp};
 ghost use Rattle.epic_num.specs.Levels.{width_of, is_first_byte};
 ghost use Rattle.epic_num.specs.Tables.{unless};
 ghost use Rattle.epic_layout.specs.Contents as contents;
@@ -11,13 +13,14 @@ ghost use Rattle.epic_layout.specs.Layout.{parse, fault, checked};
 ghost use Rattle.epic_view.specs.View.{IsView};
 
 use crate::frame::{Frame, frame_of};
-use crate::{places, reading};
+use crate::{order, places, reading};
 use epic_layout::wire::{
     CURRENT_AT, DEST_LEN, DST_AS_AT, DST_HOST_AT, HOP_LEN, SEGMENT_LEN, SRC_AS_AT, SRC_HOST_AT,
     TS_AT,
 };
 use epic_layout::{Shape, check, host_at, u64_at};
 use epic_num::{Body, Field, HostId, LayoutError};
+use std::cmp::Ordering;
 use std::marker::Model;
 
 /// A packet that is read where its bytes lie. Contracts see it as what the bytes say.
@@ -186,6 +189,14 @@ impl<'a> PacketRef<'a> {
         ensures { IsTrue result ↔ (path_bytes self.now.route ≡ path_bytes other.now.route) }
     {
         reading::same_path(self.bytes, self.frame, other.bytes, other.frame)
+    }
+
+    /// The order of the two packets' path bytes. It tells apart exactly those that `same_path` tells apart.
+    pub fn path_order(&self, other: &PacketRef<'_>) -> Ordering
+        ensures value { result ≡ slice_cmp nat_cmp (path_bytes self.now.route) (path_bytes other.now.route) }
+        ensures ties { is_eq result ≡ bytes_eq (path_bytes self.now.route) (path_bytes other.now.route) }
+    {
+        order::path_order(self.bytes, self.frame, other.bytes, other.frame)
     }
 
     /// The bytes of a segment's header, from 0, which stand in the path bytes.
