@@ -4,7 +4,7 @@ use Rattle.std.specs.Prelude.{Option, Some, None, slice_get, IsSome, slice_index
 use Rattle.std.specs.Option.{option_map_or}
 use Rattle.std.proofs.lemmas.List.{take_at, take-append-le}
 use Rattle.std.proofs.lemmas.List.Elements.{All-append, All-cons, All-nil}
-use Rattle.std.proofs.lemmas.Option.{same_Some, slice_get_read}
+use Rattle.std.proofs.lemmas.Option.{same_Some, none-some, slice_get_read, slice_get_past}
 use Rattle.std.proofs.Math.Dec.{eqb-suc-zero}
 use Rattle.arrayvec.specs.ArrayVec.{ArrayVec}
 use Rattle.epic_num.specs.declared.name.AsId.{AsId}
@@ -115,6 +115,13 @@ lawful_emit events es x h spelled = record {
   packets = All-append IsEmission es (x ∷ []) h.packets (All-cons IsEmission x [] spelled (All-nil IsEmission));
   fit = λ n e at. fits_more es (x ∷ []) (issues_in (take n events)) e (h.fit n e at);
   ascending = h.ascending;
+}
+
+pub lawful_none : IsLawful (record { events = []; emissions = [] })
+lawful_none = record {
+  packets = All-nil IsEmission;
+  fit = λ n e at. absurd (none-some e (sym (slice_get_past [] n (omega arith)) ∙ at));
+  ascending = λ n e at. absurd (none-some e (sym (slice_get_past [] n (omega arith)) ∙ at));
 }
 
 -- what an event of a lawful ledger names is there

@@ -3,6 +3,9 @@ pub mod InRow
 pub mod Logging
 pub mod Numbered
 pub mod Spots
-pub mod Orders
 pub mod RankLaws
+pub mod KindLaws
 pub mod PassLaws
+pub mod SendLaws
+pub mod PathLaws
+pub mod RevealLaws

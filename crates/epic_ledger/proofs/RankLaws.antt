@@ -1,21 +1,23 @@
 -- The orders are total, and tell apart what the tests of equality tell apart.
-use Rattle.std.proofs.Common.{◌≡◌, ℕ, zero, suc, ◌<◌, Bool, List, [], ◌∷◌, length, Option, Ordering, sym, ap, ◌∙◌, arith}
+use Rattle.std.proofs.Common.{◌≡◌, ℕ, zero, suc, ◌<◌, Bool, List, [], ◌∷◌, length, Option, Ordering, refl, sym, ap, ◌∙◌, arith}
 use Rattle.std.specs.Prelude.{Some, None, IfSome, position, slice_index_or}
 use Rattle.std.specs.Cmp.{IsTotalOrder, unsigned_ties, both_tied}
-use Rattle.std.specs.Cmp.Lexicographic.{texts_ties}
-use Rattle.std.specs.Ordering.{is_eq, ordering_reverse}
+use Rattle.std.specs.Cmp.Lexicographic.{slice_cmp, texts_ties, bytes_decides}
+use Rattle.std.specs.Ordering.{is_eq, nat_cmp, ordering_reverse, ordering_then}
 use Rattle.std.specs.declared.cmp.Ordering.TheVariants.{Less, Equal, Greater}
 use Rattle.std.proofs.lemmas.List.Quantifiers.{position-Some}
 use Rattle.std.proofs.lemmas.Cmp.{nat_cmp_total, nat_list_cmp_total, on_total, then_total}
-use Rattle.epic_num.specs.Same.{same_as, same_host, same_body, same_name}
+use Rattle.epic_num.specs.Same.{same_as, same_host, same_body, same_name, same_holder}
 use Rattle.epic_num.specs.declared.hop.Body.{Body}
 use Rattle.epic_num.specs.declared.hop.HopName.{HopName}
 use Rattle.epic_num.specs.declared.name.AsId.{AsId}
 use Rattle.epic_num.specs.declared.name.HostId.{HostId}
-use Rattle.epic_num.proofs.SameLaws.{same_name-Decides}
+use Rattle.epic_num.specs.declared.key_name.Holder.{Holder}
+use Rattle.epic_num.specs.declared.key_name.Holder.TheVariants.{As, Host}
+use Rattle.epic_num.proofs.SameLaws.{same_name-Decides, same_holder-Decides}
 use Rattle.epic_tree.specs.Index.{IsTagOf}
 use Rattle.epic_ledger.proofs.Logging.{position-map}
-use Rattle.epic_ledger.specs.Ranks.{as_cmp, host_cmp, body_cmp, name_cmp, name_tag, no_name, names_of}
+use Rattle.epic_ledger.specs.Ranks.{as_cmp, host_cmp, holder_row, holder_cmp, holder_tag, body_cmp, name_cmp, name_tag, no_name, names_of}
 use Rattle.epic_ledger.specs.declared.log.Issued.{Issued}
 
 pub as_total : IsTotalOrder as_cmp
@@ -33,6 +35,36 @@ host_total = then_total (on_total (λ (h : HostId). h.asn) as_total) (on_total (
 pub host_ties : (h k : HostId) → same_host h k ≡ is_eq (host_cmp h k)
 unfolding host_cmp same_host
 host_ties h k = both_tied _ _ _ _ (as_ties h.asn k.asn) (unsigned_ties h.host k.host)
+
+pub holder_total : IsTotalOrder holder_cmp
+unfolding holder_cmp
+holder_total = on_total holder_row nat_list_cmp_total
+
+then_Equal : (o : Ordering) → ordering_then o Equal ≡ o
+then_Equal Less = refl
+then_Equal Equal = refl
+then_Equal Greater = refl
+
+-- the order of two holders of one kind
+pub as_rows : (a b : AsId) → as_cmp a b ≡ holder_cmp (As a) (As b)
+unfolding as_cmp holder_cmp
+as_rows a b = sym (then_Equal (nat_cmp a.0 b.0))
+
+pub host_rows : (h k : HostId) → host_cmp h k ≡ holder_cmp (Host h) (Host k)
+unfolding as_cmp host_cmp holder_cmp
+host_rows h k = ap (ordering_then (nat_cmp h.asn.0 k.asn.0)) (sym (then_Equal (nat_cmp h.host k.host)))
+
+pub ruleset holders_ordered = (as_rows, host_rows)
+
+pub holder_ties : (x y : Holder) → same_holder x y ≡ is_eq (holder_cmp x y)
+unfolding same_holder holder_cmp
+holder_ties (As a) (As b) = as_ties a b ∙ ap is_eq (as_rows a b)
+holder_ties (Host h) (Host k) = host_ties h k ∙ ap is_eq (host_rows h k)
+holder_ties (As a) (Host k) = refl
+holder_ties (Host h) (As b) = refl
+
+pub holder_tagged : IsTagOf holder_cmp holder_tag
+holder_tagged x y e = ap holder_tag ((same_holder-Decides x y).0 (holder_ties x y ∙ ap is_eq e))
 
 pub body_total : IsTotalOrder body_cmp
 unfolding body_cmp
@@ -84,6 +116,19 @@ pub is_eq_back : (o p : Ordering) → o ≡ ordering_reverse p → is_eq o ≡ i
 is_eq_back o Less e = ap is_eq e
 is_eq_back o Equal e = ap is_eq e
 is_eq_back o Greater e = ap is_eq e
+
+-- the parts of an order by two parts, where it tells nothing apart
+pub tied_parts : (o p : Ordering) → ordering_then o p ≡ Equal → (o ≡ Equal) × (p ≡ Equal)
+tied_parts Less p e = cc
+tied_parts Equal p e = (refl, e)
+tied_parts Greater p e = cc
+
+pub holder_back : (x y : Holder) → is_eq (holder_cmp x y) ≡ same_holder y x
+holder_back x y = is_eq_back (holder_cmp x y) (holder_cmp y x) (holder_total.antisymm x y) ∙ sym (holder_ties y x)
+
+-- lists of numbers that are not told apart are the same
+pub same_text : (xs ys : List ℕ) → slice_cmp nat_cmp xs ys ≡ Equal → xs ≡ ys
+same_text xs ys e = (bytes_decides xs ys).0 (texts_ties xs ys ∙ ap is_eq e)
 
 -- the test of equality, the other way round
 name_back : (x y : HopName) → is_eq (name_cmp x y) ≡ same_name y x

@@ -3,9 +3,8 @@ use Rattle.std.proofs.Common.{◌≡◌, ℕ, ◌+◌, ◌-◌, ◌<◌, ◌≤�
 use Rattle.std.specs.Prelude.{Some, None, nat_lt, if◌then◌else◌}
 use Rattle.std.proofs.lemmas.Option.{same_Some}
 use Rattle.epic_num.specs.Chains.{Issue}
-use Rattle.epic_num.specs.Levels.{is_first_byte}
 use Rattle.epic_layout.specs.Contents.{hop_count}
-use Rattle.epic_layout.specs.Layout.{fault, parse, route_in, segments_in}
+use Rattle.epic_layout.specs.Layout.{parse, route_in, segments_in}
 use Rattle.epic_layout.specs.Laws.{IsPlaceOf}
 use Rattle.epic_layout.specs.Route.{place, position, no_segment}
 use Rattle.epic_layout.specs.declared.head.HopPlace.{HopPlace}
@@ -15,7 +14,6 @@ use Rattle.epic_ledger.specs.Walks.{spot, issue_of_hop}
 use Rattle.epic_ledger.specs.declared.spot.Spot.{Spot}
 use Rattle.epic_layout.proofs.HopPlaces.{places_are_one}
 use Rattle.epic_layout.proofs.Shapes.{hop_count_parse}
-use Rattle.epic_layout.proofs.Soundness.{sound}
 
 placed : (b : List ℕ) (j : ℕ) → j < hop_count (parse b) → IsPlaceOf (parse b).route.segments j (place (parse b).route.segments j)
 unfolding parse route_in
@@ -42,10 +40,6 @@ pub position_within : (b : List ℕ) (j : ℕ) → j < hop_count (parse b)
 position_within b j h = position_most (place (parse b).route.segments j) (placed b j h).inside
 
 pub ruleset spots = (segment_there, head_there, position_within)
-
--- where a packet's timestamp ends there are bytes
-pub timestamp_there : (b : List ℕ) → fault is_first_byte b ≡ None → 40 ≤ length b
-timestamp_there b h = let there = (sound b h).segments_there in omega (arith, there)
 
 -- the issue at a spot is that of the hop
 pub spot_hit : (issues : List Issue) (s : Sent) (j : ℕ) (x : Spot) → Some x ≡ spot s.packet j

@@ -11,10 +11,13 @@ ghost use Rattle.epic_ledger.specs.Lawful.{Fits, IsLast, IsLawful};
 
 use crate::Event;
 use crate::emissions::Emissions;
+use crate::index::Index;
 use crate::log::Log;
-use crate::pass_index::{Passes, add_pass};
+use crate::pass_index::add_pass;
+use crate::path_index::add_path;
+use crate::reveal_index::add_reveal;
+use crate::send_index::add_send;
 use epic_num::{HopName, OutOfMemory, Place};
-use epic_tree::Tree;
 use epic_view::PacketRef;
 use std::alloc::Global;
 use std::marker::Model;
@@ -24,7 +27,10 @@ use std::marker::Model;
 pub struct Ledger {
     pub(crate) log: Log,
     pub(crate) emissions: Emissions,
-    pub(crate) passes: Passes,
+    pub(crate) sends: Index,
+    pub(crate) passes: Index,
+    pub(crate) paths: Index,
+    pub(crate) reveals: Index,
 }
 
 impl Model for Ledger {
@@ -32,19 +38,19 @@ impl Model for Ledger {
 
     ghost Value = { Recorded };
 
-    ghost use Rattle.std.specs.Prelude.{◌-◌, length, min, vec_capacity};
-    ghost use Rattle.epic_ledger.specs.Indexes.{IsRecorded};
+    ghost use Rattle.std.specs.Prelude.{min};
+    ghost use Rattle.epic_ledger.specs.Indexes.{IsRecorded, room_in};
 
     ghost view = { λ l. record {
       history = record { events = l.log.events; emissions = l.emissions.emissions };
       spare = record {
-        events = min l.log.spare (min (vec_capacity l.passes.at - length l.passes.at.items) l.passes.names.spare);
+        events = min (min (min (min l.log.spare (room_in l.sends)) (room_in l.passes)) (room_in l.paths)) (room_in l.reveals);
         emissions = l.emissions.spare;
         bytes = l.emissions.byte_spare;
       };
     } };
 
-    ghost invariant = { λ l. IsRecorded l.log.events l.emissions.emissions l.passes.at.items l.passes.names };
+    ghost invariant = { λ l. IsRecorded l.log.events l.emissions.emissions l.sends l.passes l.paths l.reveals };
 }
 
 impl Ledger {
@@ -56,10 +62,10 @@ impl Ledger {
         Ledger {
             log: Log::new(alloc),
             emissions: Emissions::new(alloc),
-            passes: Passes {
-                at: Vec::new(alloc),
-                names: Tree::new(alloc),
-            },
+            sends: Index::new(alloc),
+            passes: Index::new(alloc),
+            paths: Index::new(alloc),
+            reveals: Index::new(alloc),
         }
     }
 
@@ -89,7 +95,16 @@ impl Ledger {
         if self.emissions.reserve(emissions, bytes).is_err() {
             return Err(OutOfMemory);
         }
+        if self.sends.reserve(events).is_err() {
+            return Err(OutOfMemory);
+        }
         if self.passes.reserve(events).is_err() {
+            return Err(OutOfMemory);
+        }
+        if self.paths.reserve(events).is_err() {
+            return Err(OutOfMemory);
+        }
+        if self.reveals.reserve(events).is_err() {
             return Err(OutOfMemory);
         }
         Ok(())
@@ -101,7 +116,11 @@ impl Ledger {
         ensures lawful { IsLawful self.now.history }
     {
         (
-            self.log.spare().min(self.passes.spare()),
+            self.log.spare()
+                .min(self.sends.spare())
+                .min(self.passes.spare())
+                .min(self.paths.spare())
+                .min(self.reveals.spare()),
             self.emissions.spare(),
             self.emissions.byte_spare(),
         )
@@ -119,7 +138,10 @@ impl Ledger {
         ensures emissions_spare { self.new.spare.emissions ≡ self.old.spare.emissions }
         ensures bytes_spare { self.new.spare.bytes ≡ self.old.spare.bytes }
     {
+        add_send(&mut self.sends, self.log.events(), &self.emissions, &event);
         add_pass(&mut self.passes, self.log.events(), &self.emissions, &event);
+        add_path(&mut self.paths, self.log.events(), &self.emissions, &event);
+        add_reveal(&mut self.reveals, self.log.events(), &event);
         self.log.push(event);
     }
 

@@ -3,6 +3,7 @@
 
 mod emissions;
 mod event;
+mod index;
 mod ledger;
 mod limits;
 mod log;
@@ -10,8 +11,11 @@ mod names;
 mod packet;
 mod pass_index;
 mod passes;
+mod path_index;
 mod ranks;
+mod reveal_index;
 mod reveals;
+mod send_index;
 mod sends;
 mod spot;
 #[cfg(test)]

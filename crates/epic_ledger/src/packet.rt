@@ -1,10 +1,9 @@
 //! Packets whose bytes have no fault.
-ghost use Rattle.std.specs.Prelude.{◌≡◌, ◌==◌, None};
+ghost use Rattle.std.specs.Prelude.{◌≡◌, None};
 ghost use Rattle.epic_num.specs.Levels.{is_first_byte};
 ghost use Rattle.epic_layout.specs.Layout.{fault, parse};
 
-use epic_layout::wire::TS_AT;
-use epic_layout::{shape_of, u64_at};
+use epic_layout::shape_of;
 use epic_view::PacketRef;
 
 /// The packet of bytes without a fault, which are not checked again.
@@ -14,13 +13,4 @@ pub fn packet_in(bytes: &[u8]) -> PacketRef<'_>
     ensures { result ≡ parse bytes.now }
 {
     PacketRef::of(bytes, shape_of(bytes))
-}
-
-/// Whether the packet has this timestamp, which is read before anything else.
-#[tactic(auto, using(crate::proofs::Spots::timestamp_there), unfolding(epic_layout::specs::Layout::parse))]
-pub fn has_ts(bytes: &[u8], ts: u64) -> bool
-    requires { fault is_first_byte bytes.now ≡ None }
-    ensures { result ≡ ((parse bytes.now).ts == ts) }
-{
-    u64_at(bytes, TS_AT) == ts
 }

@@ -1,15 +1,11 @@
 //! The hops that routers accepted.
-ghost use Rattle.std.specs.Prelude.{◌≡◌, filter_map, option_map, IsSome};
-ghost use Rattle.epic_ledger.specs.Facts.{as_pass, facts_of};
-ghost use Rattle.epic_ledger.specs.History.{emission_at};
-ghost use Rattle.epic_ledger.specs.Lawful.{IsLawful};
+ghost use Rattle.std.specs.Prelude.{◌≡◌, option_map};
+ghost use Rattle.epic_ledger.specs.Facts.{facts_of};
 ghost use Rattle.epic_ledger.specs.Queries as queries;
-ghost use Rattle.epic_ledger.specs.Walks.{pass_with};
 
-use crate::emissions::Emissions;
-use crate::packet::packet_in;
+use crate::Ledger;
 use crate::pass_index::first_pass;
-use crate::{Event, Ledger};
+use crate::path_index::first_on_path;
 use epic_num::{AsId, HopName, HostId};
 use epic_view::PacketRef;
 
@@ -30,57 +26,6 @@ pub struct Sought {
     pub src: HostId,
     pub ts: u64,
     pub hop: u8,
-}
-
-/// Whether the path bytes of two packets are the same.
-#[tactic(auto, unfolding(crate::specs::Queries::same_path))]
-fn same_path(left: &PacketRef<'_>, right: &PacketRef<'_>) -> bool
-    ensures { result ≡ queries.same_path left.now.route right.now.route }
-{
-    left.same_path(right)
-}
-
-/// Whether the hop was accepted at this index of a packet with the path bytes of this one.
-#[tactic(auto, unfolding(crate::specs::Facts::packet_at, crate::specs::Queries::is_on_path, crate::specs::Walks::pass_with))]
-fn is_on_path(emissions: &Emissions, pass: Passing, packet: &PacketRef<'_>, hop: u8) -> bool
-    requires { IsSome (emission_at emissions.now.emissions pass.emission) }
-    ensures { result ≡ queries.is_on_path packet.now.route hop (pass_with emissions.now.emissions pass) }
-{
-    pass.hop == hop && same_path(&packet_in(emissions.bytes_of(pass.emission)), packet)
-}
-
-/// The first hop that was accepted at this index of a packet with the path bytes of this one.
-#[tactic(auto, unfolding(crate::specs::Facts::as_pass, crate::specs::Queries::chain_pass, crate::specs::Walks::pass_with))]
-fn first_on_path(
-    events: &[Event],
-    emissions: &Emissions,
-    packet: &PacketRef<'_>,
-    hop: u8,
-) -> Option<Passing>
-    requires { IsLawful (record { events = events.now; emissions = emissions.now.emissions }) }
-    ensures { option_map (pass_with emissions.now.emissions) result ≡ queries.chain_pass (filter_map (as_pass emissions.now.emissions) events.now) packet.now.route hop }
-{
-    for event in events {
-        if let Event::Pass {
-            a,
-            hop: at,
-            generation,
-            emission,
-            ..
-        } = event
-        {
-            let pass = Passing {
-                asn: *a,
-                generation: *generation,
-                hop: *at,
-                emission: *emission,
-            };
-            if is_on_path(emissions, pass, packet, hop) {
-                return Some(pass);
-            }
-        }
-    }
-    None
 }
 
 impl Ledger {
@@ -108,7 +53,7 @@ impl Ledger {
     pub fn chain_pass(&self, packet: &PacketRef<'_>, hop: u8) -> Option<(AsId, u32, u32)>
         ensures { result ≡ option_map (λ w. (w.asn, w.generation, w.emission)) (queries.chain_pass (facts_of self.now.history).passes packet.now.route hop) }
     {
-        match first_on_path(self.log.events(), &self.emissions, packet, hop) {
+        match first_on_path(&self.paths, self.log.events(), &self.emissions, packet, hop) {
             Some(pass) => Some((pass.asn, pass.generation, pass.emission)),
             None => None,
         }

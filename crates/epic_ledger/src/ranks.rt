@@ -1,8 +1,8 @@
 //! Orders of what is sought in a ledger.
 ghost use Rattle.std.specs.Prelude.{◌≡◌};
-ghost use Rattle.epic_ledger.specs.Ranks.{as_cmp, host_cmp, body_cmp, name_cmp};
+ghost use Rattle.epic_ledger.specs.Ranks.{as_cmp, host_cmp, holder_cmp, body_cmp, name_cmp};
 
-use epic_num::{AsId, Body, HopName, HostId};
+use epic_num::{AsId, Body, Holder, HopName, HostId};
 use std::cmp::Ordering;
 
 #[tactic(auto, unfolding(crate::specs::Ranks::as_cmp))]
@@ -17,6 +17,22 @@ pub fn host_order(h: HostId, k: HostId) -> Ordering
     ensures { result ≡ host_cmp h k }
 {
     as_order(h.asn, k.asn).then(h.host.cmp(&k.host))
+}
+
+#[tactic(auto, using(crate::proofs::RankLaws::holders_ordered), unfolding(crate::specs::Ranks::holder_cmp))]
+pub fn holder_order(x: Holder, y: Holder) -> Ordering
+    ensures { result ≡ holder_cmp x y }
+{
+    match x {
+        Holder::As(a) => match y {
+            Holder::As(b) => as_order(a, b),
+            Holder::Host(_) => Ordering::Less,
+        },
+        Holder::Host(h) => match y {
+            Holder::As(_) => Ordering::Greater,
+            Holder::Host(k) => host_order(h, k),
+        },
+    }
 }
 
 #[tactic(auto, unfolding(crate::specs::Ranks::body_cmp))]

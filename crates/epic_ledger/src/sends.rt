@@ -1,64 +1,22 @@
 //! What sources sent.
-ghost use Rattle.std.specs.Prelude.{◌≡◌, ◌==◌, ◌&&◌, filter_map, option_map, slice_index_or, IfSome, IsSome, None};
-ghost use Rattle.epic_num.specs.Same as same;
-ghost use Rattle.epic_ledger.specs.Facts.{as_send, facts_of, issues_in, packet_at};
+ghost use Rattle.std.specs.Prelude.{◌≡◌, option_map, slice_index_or, IsSome};
+ghost use Rattle.epic_ledger.specs.Facts.{facts_of, issues_in};
 ghost use Rattle.epic_ledger.specs.History.{emission_at};
-ghost use Rattle.epic_ledger.specs.Lawful.{IsLawful};
 ghost use Rattle.epic_ledger.specs.Queries as queries;
 ghost use Rattle.epic_ledger.specs.Walks.{issue_of_hop, sent_with};
 
 use crate::emissions::Emissions;
 use crate::log::Log;
-use crate::packet::{has_ts, packet_in};
+use crate::send_index::{Origin, first_send};
 use crate::spot::spot_of;
-use crate::{Event, Ledger};
-use epic_num::{HostId, same_host};
+use crate::Ledger;
+use epic_num::HostId;
 
 /// A packet that was sent: its emission, and the last issue of each segment of its path.
 #[derive(Clone, Copy)]
 pub struct Sending<'a> {
     pub emission: u32,
     pub segments: &'a [u32],
-}
-
-/// Whether the packet of an emission has this source and this timestamp.
-#[tactic(auto, unfolding(crate::specs::Facts::packet_at))]
-fn is_from(emissions: &Emissions, number: u32, src: HostId, ts: u64) -> bool
-    requires { IsSome (emission_at emissions.now.emissions number) }
-    ensures { result ≡ (same.same_host (packet_at emissions.now.emissions number).src src && (packet_at emissions.now.emissions number).ts == ts) }
-{
-    let bytes = emissions.bytes_of(number);
-    has_ts(bytes, ts) && same_host(packet_in(bytes).src(), src)
-}
-
-/// The first packet that a source sent with a timestamp.
-#[tactic(auto, unfolding(crate::specs::Facts::as_send, crate::specs::Queries::is_send_of, crate::specs::Queries::send_of, crate::specs::Walks::sent_with))]
-fn first_send<'a>(
-    events: &'a [Event],
-    emissions: &Emissions,
-    src: HostId,
-    ts: u64,
-) -> Option<Sending<'a>>
-    requires { IsLawful (record { events = events.now; emissions = emissions.now.emissions }) }
-    ensures there { IfSome result (λ s. IsSome (emission_at emissions.now.emissions s.emission)) }
-    ensures value { option_map (sent_with emissions.now.emissions) result ≡ queries.send_of (filter_map (as_send emissions.now.emissions) events.now) src ts }
-{
-    for event in events {
-        if let Event::Send {
-            emission,
-            segments,
-            ..
-        } = event
-        {
-            if is_from(emissions, *emission, src, ts) {
-                return Some(Sending {
-                    emission: *emission,
-                    segments: segments.as_slice(),
-                });
-            }
-        }
-    }
-    None
 }
 
 /// The last issue of a segment, 0 where there is no such segment.
@@ -89,7 +47,7 @@ impl Ledger {
     pub fn send_of(&self, src: HostId, ts: u64) -> Option<u32>
         ensures { result ≡ option_map (λ s. s.emission) (queries.send_of (facts_of self.now.history).sends src ts) }
     {
-        match first_send(self.log.events(), &self.emissions, src, ts) {
+        match first_send(&self.sends, self.log.events(), &self.emissions, Origin { src, ts }) {
             Some(sending) => Some(sending.emission),
             None => None,
         }
@@ -100,7 +58,7 @@ impl Ledger {
     pub fn send_hop(&self, src: HostId, ts: u64, hop: u8) -> Option<u32>
         ensures { result ≡ queries.send_hop (facts_of self.now.history) src ts hop }
     {
-        match first_send(self.log.events(), &self.emissions, src, ts) {
+        match first_send(&self.sends, self.log.events(), &self.emissions, Origin { src, ts }) {
             Some(sending) => issue_at_hop(&self.log, &self.emissions, sending, hop),
             None => None,
         }
