@@ -1,6 +1,6 @@
 -- What a store keeps when it issues one more beacon.
-use Rattle.std.proofs.Common.{◌≡◌, ◌≢◌, ℕ, ◌+◌, ◌/◌, ◌≤◌, ◌<◌, ◌^◌, Bool, true, false, ◌==◌, List, [], ◌∷◌, ◌++◌, length, refl, sym, ◌∙◌, ap, arith, subst, inl, inr, length-take-le}
-use Rattle.std.specs.Prelude.{◌⊎◌, Option, Some, None, is_none, is_some, option_map, unwrap_or, IsSome, IfSome, Ok}
+use Rattle.std.proofs.Common.{◌≡◌, ◌≢◌, ℕ, ◌+◌, ◌/◌, ◌≤◌, ◌<◌, ◌^◌, true, false, ◌==◌, List, [], ◌∷◌, ◌++◌, length, refl, sym, ◌∙◌, ap, arith, subst, inl, inr, length-take-le}
+use Rattle.std.specs.Prelude.{Option, Some, None, is_none, is_some, option_map, unwrap_or, IsSome, IfSome, Ok}
 use Rattle.std.specs.Option.{option_map_or}
 use Rattle.std.proofs.lemmas.Bool.{eqb-false}
 use Rattle.epic_num.specs.Bodies.{IsBody}
@@ -20,8 +20,7 @@ use Rattle.epic_fields.specs.Tags.{hop_key, link}
 use Rattle.epic_cmac.specs.Cmac.{cmac}
 use Rattle.epic_cmac.proofs.CmacFacts.{length-cmac}
 use Rattle.epic_beacon.specs.declared.beacon.Beacon.{Beacon}
-use Rattle.epic_beacon.specs.Chained.{IsChained, AreChained}
-use Rattle.epic_beacon.specs.Issuing.{behind, link_at, kind_by, first_name, next_name, beacon_of, originated, extended}
+use Rattle.epic_beacon.specs.Issuing.{behind, link_at, kind_by, first_name, next_name, beacon_of, extended}
 use Rattle.epic_beacon.specs.Laws.{AreInRange, IssuesChain, IssuesStayKept, IssuesTell, IssuesHaveTimes, IssuesStayInRange}
 use Rattle.epic_beacon.specs.Store.{Store, beacon_at, issues_of}
 use Rattle.epic_beacon.proofs.Chaining.{chained_more}

@@ -4,7 +4,6 @@ use Rattle.std.specs.Prelude.{Option, None, Some, All}
 use Rattle.std.proofs.lemmas.List.Elements.{All-append, All-cons, All-nil}
 use Rattle.epic_num.specs.Chains.{Issue}
 use Rattle.epic_num.specs.declared.hop.HopName.{HopName}
-use Rattle.epic_num.specs.declared.segment.SegHop.{SegHop}
 use Rattle.epic_num.specs.declared.segment.SegKind.{SegKind}
 use Rattle.epic_topo.specs.Network.{Network}
 use Rattle.epic_fields.specs.Tags.{sigma}

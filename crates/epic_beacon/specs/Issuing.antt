@@ -1,5 +1,5 @@
 -- Which hop is issued, or why none is: a table of refusals, of which the first that applies is told.
-use Rattle.std.specs.Prelude.{◌≡◌, ◌⊎◌, ℕ, ◌+◌, ◌/◌, ◌==◌, Bool, true, false, not, ◌&&◌, List, [], ◌∷◌, length, replicate, Option, None, Some, option_map, is_some, is_none, unwrap_or, position, Result, Ok, Err}
+use Rattle.std.specs.Prelude.{◌≡◌, ◌⊎◌, ℕ, ◌+◌, ◌/◌, ◌==◌, Bool, true, false, not, ◌&&◌, List, [], ◌∷◌, length, replicate, Option, Some, option_map, is_some, is_none, unwrap_or, position, Result, Ok, Err}
 use Rattle.std.specs.List.{list_any}
 use Rattle.std.specs.Option.{option_map_or}
 use Rattle.epic_num.specs.declared.beacon_error.BeaconError.{BeaconError}

@@ -1,5 +1,5 @@
 -- What holds of every issue, and of every segment.
-use Rattle.std.specs.Prelude.{◌≡◌, ◌⊎◌, ℕ, ◌+◌, ◌/◌, ◌≤◌, ◌<◌, ◌^◌, List, [], ◌∷◌, ◌++◌, All, Some, Ok}
+use Rattle.std.specs.Prelude.{◌≡◌, ◌⊎◌, ℕ, ◌/◌, ◌<◌, ◌^◌, List, [], ◌∷◌, ◌++◌, All, Some, Ok}
 use Rattle.epic_num.specs.Bodies.{IsBody}
 use Rattle.epic_num.specs.Chains.{Issue}
 use Rattle.epic_num.specs.declared.name.AsId.{AsId}

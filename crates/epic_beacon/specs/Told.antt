@@ -1,5 +1,5 @@
 -- The beacons that a row of issues tells of: their authenticators and the kinds of their chains follow from the topology.
-use Rattle.std.specs.Prelude.{ℕ, ◌==◌, if◌then◌else◌, List, [], ◌∷◌, ◌++◌}
+use Rattle.std.specs.Prelude.{◌==◌, if◌then◌else◌, List, [], ◌∷◌, ◌++◌}
 use Rattle.std.specs.Option.{option_map_or}
 use Rattle.epic_num.specs.Chains.{Issue}
 use Rattle.epic_num.specs.declared.segment.SegKind.{SegKind}

@@ -1,4 +1,4 @@
-use Rattle.std.proofs.Common.{sym, subst, refl, ap}
+use Rattle.std.proofs.Common.{sym, subst, ap}
 use Rattle.epic_fields.specs.Issues.{IssuesKept}
 use Rattle.epic_beacon.specs.Kinds.{KindsKept}
 use Rattle.epic_beacon.specs.Store.{generation_in, issues_of}
