@@ -29,10 +29,9 @@ answers_full profile es key now live f e is le =
     ∙ ap (λ n. answer_at profile n None) (sym is)
     ∙ ap (λ b. cond b (Full live) Fresh) (le-leb profile.window live le))
 
-pub answers_fresh : (profile : Profile) (es : Entries) (key : WinKey) (now live : ℕ) → IsFresh profile key.ts now → lookup (same_win_key key) es ≡ None
-    → live ≡ count profile es now key.src.asn → live < profile.window → Fresh ≡ answer profile es key now
-answers_fresh profile es key now live f e is lt =
+pub answers_fresh : (profile : Profile) (es : Entries) (key : WinKey) (now : ℕ) → IsFresh profile key.ts now → lookup (same_win_key key) es ≡ None
+    → count profile es now key.src.asn < profile.window → Fresh ≡ answer profile es key now
+answers_fresh profile es key now f e lt =
     sym
     (answer_by profile es key now None f e
-    ∙ ap (λ n. answer_at profile n None) (sym is)
-    ∙ ap (λ b. cond b (Full live) Fresh) (lt-leb profile.window live lt))
+    ∙ ap (λ b. cond b (Full (count profile es now key.src.asn)) Fresh) (lt-leb profile.window (count profile es now key.src.asn) lt))

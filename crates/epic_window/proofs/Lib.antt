@@ -6,3 +6,4 @@ pub mod SlotLaws
 pub mod Sweeping
 pub mod Swept
 pub mod Tallies
+pub mod TotalLaws

@@ -14,7 +14,6 @@ use Rattle.epic_window.specs.declared.key.WinKey.{WinKey}
 use Rattle.epic_window.specs.declared.slots.Slot.{Slot}
 use Rattle.epic_window.specs.declared.totals.Total.{Total}
 use Rattle.epic_window.proofs.Counting.{one, count-none, count-sum, count-le, count-kept, count-filter, count-filter-le}
-use Rattle.epic_window.proofs.Tallies.{from_later}
 
 -- a filter that drops all that is counted
 count-dropped : {X : Type 0} (p q : X → Bool) → ((x : X) → p x ≡ true → q x ≡ false) → (xs : List X) → count_by p (filter q xs) ≡ 0
@@ -108,10 +107,13 @@ kept_total profile entries moment first asn total is h = by_test (nat_lt 0 left.
     lives : left.live ≡ count_by (from_bucket asn total.from) kept
     lives = omega (arith, h.live_is, dropped_and_kept entries asn total.from first)
 
+    top : count_by (from_bucket asn (first_bucket profile moment + most_buckets profile)) kept ≡ 0
+    top = omega (arith, h.top, count-filter-le (from_bucket asn (first_bucket profile moment + most_buckets profile)) (is_kept first) entries)
+
     by_test : (b : Bool) → nat_lt 0 left.live ≡ b → IsTotal profile kept moment asn (cond b left no_total)
     by_test true e = record {
       live_is = lives;
-      top = omega (arith, h.top, count-filter-le (from_bucket asn (total.from + most_buckets profile)) (is_kept first) entries);
+      top = top;
       early = h.early;
     }
     by_test false e =
@@ -119,7 +121,7 @@ kept_total profile entries moment first asn total is h = by_test (nat_lt 0 left.
         let all : count_by (from_bucket asn 0) kept ≤ 0 = omega (arith, lives, none, h.early, kept_from entries asn total.from first (omega (arith, h.early))) in
         record {
           live_is = omega (arith, all);
-          top = omega (arith, all, from_later kept asn 0 (0 + most_buckets profile) (omega arith));
+          top = top;
           early = omega arith;
         }
 

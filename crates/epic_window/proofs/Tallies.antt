@@ -1,16 +1,16 @@
 -- The counts by AS and bucket: what they say of the live entries, and that offers and sweeps keep them.
 use Rattle.std.proofs.Common.{◌≡◌, ℕ, zero, suc, ◌+◌, ◌-◌, ◌<◌, ◌≤◌, refl, sym, ◌∙◌, ap, subst, add-one, add-zero, List, [], ◌∷◌, Bool, true, false, cond, ◌&&◌, ◌==◌, arith}
-use Rattle.std.specs.Prelude.{count_by, nat_le, unwrap_or, Option, Some, None, IsSome}
+use Rattle.std.specs.Prelude.{count_by, nat_le, nat_lt, unwrap_or, Option, Some, None, IsSome}
 use Rattle.std.specs.List.Sorted.{IsPermutation}
 use Rattle.std.specs.Map.{lookup}
-use Rattle.std.proofs.lemmas.Bool.{and_parts, and_from, and_left, and_right, eqb-true, eq-eqb, leb-true, le-leb, lt-leb}
+use Rattle.std.proofs.lemmas.Bool.{and_parts, and_from, and_left, and_right, eqb-true, eq-eqb, leb-true, le-leb, lt-leb, ltb-true}
 use Rattle.std.proofs.lemmas.Bool.Decides.{nat_tests}
 use Rattle.std.proofs.lemmas.List.Sorted.{sum_by_pushed, sum_by-IsPermutation}
 use Rattle.epic_num.specs.declared.name.AsId.{AsId}
 use Rattle.epic_num.specs.declared.profile.Profile.{Profile}
 use Rattle.epic_num.specs.Moments.{bucket, is_live, IsFresh}
 use Rattle.epic_num.specs.Same.{same_as}
-use Rattle.epic_window.specs.Counts.{first_bucket, most_buckets, at_bucket, from_bucket, in_slot, in_slots, no_total, total_of, brought, IsTotal, Tallied}
+use Rattle.epic_window.specs.Counts.{first_bucket, most_buckets, at_bucket, from_bucket, in_slot, in_slots, no_total, total_of, brought, settled, IsTotal, Tallied}
 use Rattle.epic_window.specs.Entries.{Entries, count}
 use Rattle.epic_window.specs.declared.key.WinKey.{WinKey}
 use Rattle.epic_window.specs.declared.slots.Slot.{Slot}
@@ -64,38 +64,100 @@ from_later entries asn b c h =
     entries
 
 -- a total that is brought to the first live bucket counts exactly what is there
-pub brought_is : (profile : Profile) (entries : Entries) (slots : List (Slot × ℕ)) (totals : List (AsId × Total)) (moment : ℕ) → Tallied profile entries slots totals moment
-    → (asn : AsId) (first : ℕ) → (total_of totals asn).from ≤ first
-    → (brought slots asn (total_of totals asn) first (most_buckets profile)).live ≡ count_by (from_bucket asn first) entries
+brought_is : (profile : Profile) (entries : Entries) (slots : List (Slot × ℕ)) (moment now : ℕ) (asn : AsId) (total : Total)
+    → ((b : ℕ) → in_slot slots asn b ≡ count_by (at_bucket asn b) entries) → IsTotal profile entries moment asn total → moment ≤ now
+    → (brought slots asn total (first_bucket profile now) (most_buckets profile)).live ≡ count_by (from_bucket asn (first_bucket profile now)) entries
 unfolding brought
-brought_is profile entries slots totals moment h asn first later =
-    let total : Total = total_of totals asn in
-    let most : ℕ = most_buckets profile in
-    let over : ℕ = first - total.from in
-    by_test (nat_le most over) refl
+brought_is profile entries slots moment now asn total h t le = by_test (nat_le (most_buckets profile) (first_bucket profile now - total.from)) refl
   where
-    by_test : (b : Bool) → nat_le (most_buckets profile) (first - (total_of totals asn).from) ≡ b
-        → cond b 0 ((total_of totals asn).live - in_slots slots asn (total_of totals asn).from (first - (total_of totals asn).from)) ≡ count_by (from_bucket asn first) entries
+    first : ℕ
+    first = first_bucket profile now
+
+    most : ℕ
+    most = most_buckets profile
+
+    later : first_bucket profile moment ≤ first
+    later = later_bucket profile moment now le
+
+    by_test : (b : Bool) → nat_le most (first - total.from) ≡ b
+        → cond b (total.live - (total.live - in_slots slots asn first most)) (total.live - in_slots slots asn total.from (first - total.from)) ≡ count_by (from_bucket asn first) entries
     by_test true e =
-        let far = leb-true (most_buckets profile) (first - (total_of totals asn).from) e in
-        let le : (total_of totals asn).from + most_buckets profile ≤ first = omega arith in
-        omega (arith, (h.totals_of asn).top, from_later entries asn ((total_of totals asn).from + most_buckets profile) first le)
+        let none = from_later entries asn (first_bucket profile moment + most) (first + most) (omega (arith, later)) in
+        let past = from_past entries slots asn h first most in
+        let less = from_later entries asn total.from first (omega (arith, t.early, later)) in
+        omega (arith, t.top, t.live_is, none, past, less)
     by_test false e =
-        let past = from_past entries slots asn (h.slots_of asn) (total_of totals asn).from (first - (total_of totals asn).from) in
-        let same : (total_of totals asn).from + (first - (total_of totals asn).from) ≡ first = omega arith in
-        omega (arith, past, (h.totals_of asn).live_is, ap (λ k. count_by (from_bucket asn k) entries) same)
+        let past = from_past entries slots asn h total.from (first - total.from) in
+        let same : total.from + (first - total.from) ≡ first = omega (arith, t.early, later) in
+        omega (arith, past, t.live_is, ap (λ k. count_by (from_bucket asn k) entries) same)
 
--- the same, of what is live at a moment
-pub live_exact : (profile : Profile) (entries : Entries) (slots : List (Slot × ℕ)) (totals : List (AsId × Total)) (moment : ℕ) → Tallied profile entries slots totals moment
-    → (asn : AsId) (now : ℕ) → moment ≤ now
-    → (brought slots asn (total_of totals asn) (first_bucket profile now) (most_buckets profile)).live ≡ count profile entries now asn
-live_exact profile entries slots totals moment h asn now le =
-    brought_is profile entries slots totals moment h asn (first_bucket profile now) (omega (arith, (h.totals_of asn).early, later_bucket profile moment now le))
-    ∙ live_from profile entries now asn
+-- the total of an AS stays one where nothing changes but the moment
+total_later : (profile : Profile) (entries : Entries) (moment now : ℕ) (asn : AsId) (total : Total) → moment ≤ now
+    → IsTotal profile entries moment asn total → IsTotal profile entries now asn total
+total_later profile entries moment now asn total le h =
+    let later = later_bucket profile moment now le in
+    record {
+      live_is = h.live_is;
+      top =
+          omega
+          (arith, h.top, from_later entries asn (first_bucket profile moment + most_buckets profile) (first_bucket profile now + most_buckets profile) (omega (arith, later)));
+      early = omega (arith, h.early, later);
+    }
 
-pub brought_from : (slots : List (Slot × ℕ)) (asn : AsId) (total : Total) (first most : ℕ) → (brought slots asn total first most).from ≡ first
+-- and where it is brought to the first live bucket
+total_brought : (profile : Profile) (entries : Entries) (slots : List (Slot × ℕ)) (moment now : ℕ) (asn : AsId) (total : Total)
+    → ((b : ℕ) → in_slot slots asn b ≡ count_by (at_bucket asn b) entries) → IsTotal profile entries moment asn total → moment ≤ now
+    → IsTotal profile entries now asn (brought slots asn total (first_bucket profile now) (most_buckets profile))
 unfolding brought
-brought_from slots asn total first most = refl
+total_brought profile entries slots moment now asn total h t le =
+    record {
+      live_is = brought_is profile entries slots moment now asn total h t le ∙ ap (λ b. count_by (from_bucket asn b) entries) (sym from);
+      top = (total_later profile entries moment now asn total le t).top;
+      early = omega (arith, from);
+    }
+  where
+    from : (brought slots asn total (first_bucket profile now) (most_buckets profile)).from ≡ first_bucket profile now
+    from = refl
+
+-- a settled total is one, and it is exact where it reaches the limit
+pub total_settled : (profile : Profile) (entries : Entries) (slots : List (Slot × ℕ)) (totals : List (AsId × Total)) (moment now : ℕ) (asn : AsId) (total : Total)
+    → moment ≤ now → Tallied profile entries slots totals moment → total ≡ settled profile slots asn (total_of totals asn) now → IsTotal profile entries now asn total
+unfolding settled
+total_settled profile entries slots totals moment now asn total le h is =
+    subst (IsTotal profile entries now asn) (sym is) (by_test (nat_lt (total_of totals asn).live profile.window))
+  where
+    by_test : (b : Bool)
+        → IsTotal profile entries now asn (cond b (total_of totals asn) (brought slots asn (total_of totals asn) (first_bucket profile now) (most_buckets profile)))
+    by_test true = total_later profile entries moment now asn (total_of totals asn) le (h.totals_of asn)
+    by_test false = total_brought profile entries slots moment now asn (total_of totals asn) (h.slots_of asn) (h.totals_of asn) le
+
+-- below the limit it is no less than what is live
+pub live-le : (profile : Profile) (entries : Entries) (now : ℕ) (asn : AsId) (total : Total) → IsTotal profile entries now asn total
+    → count profile entries now asn ≤ total.live
+live-le profile entries now asn total h =
+    omega (arith, h.live_is, from_later entries asn total.from (first_bucket profile now) h.early, live_from profile entries now asn)
+
+pub live_exact : (profile : Profile) (entries : Entries) (slots : List (Slot × ℕ)) (totals : List (AsId × Total)) (moment now : ℕ) (asn : AsId) (total : Total)
+    → moment ≤ now → Tallied profile entries slots totals moment → total ≡ settled profile slots asn (total_of totals asn) now → profile.window ≤ total.live
+    → total.live ≡ count profile entries now asn
+unfolding settled
+live_exact profile entries slots totals moment now asn total le h is =
+    by_test (nat_lt (total_of totals asn).live profile.window) refl is
+  where
+    old : Total
+    old = total_of totals asn
+
+    by_test : (b : Bool) → nat_lt old.live profile.window ≡ b
+        → total ≡ cond b old (brought slots asn old (first_bucket profile now) (most_buckets profile)) → profile.window ≤ total.live
+        → total.live ≡ count profile entries now asn
+    by_test true e f reaches = absurd (below (ltb-true old.live profile.window e) (ap (λ t. t.live) f))
+      where
+        below : old.live < profile.window → total.live ≡ old.live → ⊥
+        below lt same = omega (arith, reaches)
+    by_test false e f reaches =
+        ap (λ t. t.live) f
+        ∙ brought_is profile entries slots moment now asn old (h.slots_of asn) (h.totals_of asn) le
+        ∙ live_from profile entries now asn
 
 -- what is live in one bucket is among what is live
 pub slot-le : (entries : Entries) (slots : List (Slot × ℕ)) (asn : AsId) (first b : ℕ) → first ≤ b → in_slot slots asn b ≡ count_by (at_bucket asn b) entries
@@ -103,26 +165,28 @@ pub slot-le : (entries : Entries) (slots : List (Slot × ℕ)) (asn : AsId) (fir
 slot-le entries slots asn first b le h = omega (arith, h, next_bucket entries asn b, from_later entries asn first b le)
 
 -- an AS without a total has nothing live
-pub has_total : (slots : List (Slot × ℕ)) (totals : List (AsId × Total)) (asn : AsId) (first most : ℕ)
-    → 0 < (brought slots asn (total_of totals asn) first most).live → IsSome (lookup (λ a. asn.0 == a.0) totals)
-unfolding brought total_of
-has_total slots totals asn first most = by_found (lookup (λ a. asn.0 == a.0) totals)
+pub has_total : (profile : Profile) (slots : List (Slot × ℕ)) (totals : List (AsId × Total)) (asn : AsId) (now : ℕ)
+    → 0 < (settled profile slots asn (total_of totals asn) now).live → IsSome (lookup (λ a. asn.0 == a.0) totals)
+unfolding settled brought total_of
+has_total profile slots totals asn now = by_found (lookup (λ a. asn.0 == a.0) totals)
   where
-    none : (b : Bool) (n : ℕ) → 0 < cond b 0 (0 - n) → ⊥
-    none true n h = omega arith
-    none false n h = omega arith
+    first : ℕ
+    first = first_bucket profile now
+
+    live : (below far : Bool) (total : Total) → ℕ
+    live below far total =
+        (cond below total (record { live = cond far (total.live - (total.live - in_slots slots asn first (most_buckets profile))) (total.live - in_slots slots asn total.from (first - total.from)); from = first })).live
+
+    none : (below far : Bool) → 0 < live below far no_total → ⊥
+    none true far h = omega arith
+    none false true h = omega arith
+    none false false h = omega arith
 
     by_found : (o : Option Total)
-        → 0 < cond (nat_le most (first - (unwrap_or o no_total).from)) 0 ((unwrap_or o no_total).live - in_slots slots asn (unwrap_or o no_total).from (first - (unwrap_or o no_total).from))
+        → 0 < live (nat_lt (unwrap_or o no_total).live profile.window) (nat_le (most_buckets profile) (first - (unwrap_or o no_total).from)) (unwrap_or o no_total)
         → IsSome o
-    by_found None h = absurd (none (nat_le most (first - 0)) (in_slots slots asn 0 (first - 0)) h)
+    by_found None h = absurd (none (nat_lt 0 profile.window) (nat_le (most_buckets profile) (first - 0)) h)
     by_found (Some total) h = refl
-
--- the total of an AS stays one where nothing changes but the moment
-total_later : (profile : Profile) (entries : Entries) (moment now : ℕ) (asn : AsId) (total : Total) → moment ≤ now
-    → IsTotal profile entries moment asn total → IsTotal profile entries now asn total
-total_later profile entries moment now asn total le h =
-    record { live_is = h.live_is; top = h.top; early = omega (arith, h.early, later_bucket profile moment now le) }
 
 pub Tallied-later : (profile : Profile) (entries : Entries) (slots : List (Slot × ℕ)) (totals : List (AsId × Total)) (moment now : ℕ) → moment ≤ now
     → Tallied profile entries slots totals moment → Tallied profile entries slots totals now
@@ -140,31 +204,18 @@ Tallied-new profile entries slots totals e s t =
     empty : Tallied profile [] [] [] 0
     empty = record { slots_of = λ a b. refl; totals_of = λ a. record { live_is = refl; top = refl; early = omega arith } }
 
--- a total that was brought to the first live bucket
-total_brought : (profile : Profile) (entries : Entries) (moment now : ℕ) (asn : AsId) (old total : Total) → moment ≤ now → IsTotal profile entries moment asn old
-    → total.live ≡ count_by (from_bucket asn (first_bucket profile now)) entries → total.from ≡ first_bucket profile now → IsTotal profile entries now asn total
-total_brought profile entries moment now asn old total le h live from =
-    let lower : old.from + most_buckets profile ≤ total.from + most_buckets profile = omega (arith, h.early, later_bucket profile moment now le) in
-    record {
-      live_is = live ∙ ap (λ b. count_by (from_bucket asn b) entries) (sym from);
-      top = omega (arith, h.top, from_later entries asn (old.from + most_buckets profile) (total.from + most_buckets profile) lower);
-      early = omega arith;
-    }
-
--- an offer that is refused may bring its AS's total to the first live bucket
+-- an offer that is refused may write its AS's total
 pub Tallied-kept : (profile : Profile) (entries : Entries) (slots : List (Slot × ℕ)) (totals totals' : List (AsId × Total)) (moment now : ℕ) (asn : AsId) (total : Total) (some : Bool)
-    → moment ≤ now → Tallied profile entries slots totals moment
-    → total.live ≡ count_by (from_bucket asn (first_bucket profile now)) entries → total.from ≡ first_bucket profile now
+    → moment ≤ now → Tallied profile entries slots totals moment → IsTotal profile entries now asn total
     → ((a : AsId) → total_of totals' a ≡ cond (some && asn.0 == a.0) total (total_of totals a))
     → Tallied profile entries slots totals' now
-Tallied-kept profile entries slots totals totals' moment now asn total some le h live from is =
+Tallied-kept profile entries slots totals totals' moment now asn total some le h t is =
     record { slots_of = h.slots_of; totals_of = λ a. subst (IsTotal profile entries now a) (sym (is a)) (each a (some && asn.0 == a.0) refl) }
   where
     each : (a : AsId) (b : Bool) → (some && asn.0 == a.0) ≡ b → IsTotal profile entries now a (cond b total (total_of totals a))
     each a true e =
         let same : asn ≡ a = λ i. record { 0 = eqb-true asn.0 a.0 (and_parts some (asn.0 == a.0) e).1 i } in
-        subst (λ c. IsTotal profile entries now c total) same
-        (total_brought profile entries moment now asn (total_of totals asn) total le (h.totals_of asn) live from)
+        subst (λ c. IsTotal profile entries now c total) same t
     each a false e = total_later profile entries moment now a (total_of totals a) le (h.totals_of a)
 
 -- one more entry, in some order
@@ -175,13 +226,12 @@ pushed p e entries more h = sum_by_pushed (λ x. cond (p x) 1 0) e entries more 
 pub Tallied-added : (profile : Profile) (entries more : Entries) (slots slots' : List (Slot × ℕ)) (totals totals' : List (AsId × Total)) (moment now : ℕ)
     → (key : WinKey) (turn here : ℕ) (total : Total)
     → moment ≤ now → IsFresh profile key.ts now → here ≡ bucket key.ts → Tallied profile entries slots totals moment
-    → total.live ≡ count_by (from_bucket key.src.asn (first_bucket profile now)) entries → total.from ≡ first_bucket profile now
-    → IsPermutation ((key, turn) ∷ entries) more
+    → IsTotal profile entries now key.src.asn total → IsPermutation ((key, turn) ∷ entries) more
     → ((a : AsId) (b : ℕ) → in_slot slots' a b ≡ in_slot slots a b + cond (key.src.asn.0 == a.0 && here == b) 1 0)
     → ((a : AsId) → total_of totals' a ≡ cond (key.src.asn.0 == a.0) (record { live = total.live + 1; from = total.from }) (total_of totals a))
     → Tallied profile more slots' totals' now
 unfolding at_bucket from_bucket
-Tallied-added profile entries more slots slots' totals totals' moment now key turn here total le fresh there h live from perm slots_are totals_are = record {
+Tallied-added profile entries more slots slots' totals totals' moment now key turn here total le fresh there h t perm slots_are totals_are = record {
   slots_of = λ a b.
       let e = pushed (at_bucket a b) (key, turn) entries more perm in
       let f = ap (λ n. one (key.src.asn.0 == a.0 && n == b)) there in
@@ -189,24 +239,22 @@ Tallied-added profile entries more slots slots' totals totals' moment now key tu
   totals_of = λ a. subst (IsTotal profile more now a) (sym (totals_are a)) (each a (key.src.asn.0 == a.0) refl);
 }
   where
-    first : ℕ
-    first = first_bucket profile now
+    last : ℕ
+    last = first_bucket profile now + most_buckets profile
 
     starts : total.from ≤ bucket key.ts
-    starts = omega (arith, fresh_from profile key.ts now fresh)
+    starts = omega (arith, t.early, fresh_from profile key.ts now fresh)
 
-    ends : bucket key.ts < total.from + most_buckets profile
-    ends = omega (arith, fresh_to profile key.ts now fresh)
+    ends : (a : AsId) → one (key.src.asn.0 == a.0 && nat_le last (bucket key.ts)) ≡ 0
+    ends a = ap one (and_right (key.src.asn.0 == a.0) (nat_le last (bucket key.ts)) (lt-leb last (bucket key.ts) (fresh_to profile key.ts now fresh)))
 
     mine : IsTotal profile more now key.src.asn (record { live = total.live + 1; from = total.from })
     mine =
-        let brought = total_brought profile entries moment now key.src.asn (total_of totals key.src.asn) total le (h.totals_of key.src.asn) live from in
         let same : (key.src.asn.0 == key.src.asn.0) ≡ true = eq-eqb key.src.asn.0 key.src.asn.0 refl in
         let e = pushed (from_bucket key.src.asn total.from) (key, turn) entries more perm in
-        let f = pushed (from_bucket key.src.asn (total.from + most_buckets profile)) (key, turn) entries more perm in
+        let f = pushed (from_bucket key.src.asn last) (key, turn) entries more perm in
         let g = ap one (and_from (key.src.asn.0 == key.src.asn.0) (nat_le total.from (bucket key.ts)) same (le-leb total.from (bucket key.ts) starts)) in
-        let k = ap one (and_right (key.src.asn.0 == key.src.asn.0) (nat_le (total.from + most_buckets profile) (bucket key.ts)) (lt-leb (total.from + most_buckets profile) (bucket key.ts) ends)) in
-        record { live_is = omega (arith, brought.live_is, e, g); top = omega (arith, brought.top, f, k); early = brought.early }
+        record { live_is = omega (arith, t.live_is, e, g); top = omega (arith, t.top, f, ends key.src.asn); early = t.early }
 
     each : (a : AsId) (b : Bool) → (key.src.asn.0 == a.0) ≡ b → IsTotal profile more now a (cond b (record { live = total.live + 1; from = total.from }) (total_of totals a))
     each a true e =
@@ -216,10 +264,9 @@ Tallied-added profile entries more slots slots' totals totals' moment now key tu
         let old = total_of totals a in
         let before = total_later profile entries moment now a old le (h.totals_of a) in
         let f = pushed (from_bucket a old.from) (key, turn) entries more perm in
-        let g = pushed (from_bucket a (old.from + most_buckets profile)) (key, turn) entries more perm in
+        let g = pushed (from_bucket a last) (key, turn) entries more perm in
         let k = ap one (and_left (key.src.asn.0 == a.0) (nat_le old.from (bucket key.ts)) e) in
-        let l = ap one (and_left (key.src.asn.0 == a.0) (nat_le (old.from + most_buckets profile) (bucket key.ts)) e) in
-        record { live_is = omega (arith, before.live_is, f, k); top = omega (arith, before.top, g, l); early = before.early }
+        record { live_is = omega (arith, before.live_is, f, k); top = omega (arith, before.top, g, ends a); early = before.early }
 
 -- the same entries in another order
 pub Tallied-reordered : (profile : Profile) (entries others : Entries) (slots slots' : List (Slot × ℕ)) (totals totals' : List (AsId × Total)) (moment : ℕ)
@@ -232,7 +279,7 @@ Tallied-reordered profile entries others slots slots' totals totals' moment h pe
       (let old = h.totals_of a in
       record {
         live_is = old.live_is ∙ sym (counts (from_bucket a (total_of totals a).from));
-        top = counts (from_bucket a ((total_of totals a).from + most_buckets profile)) ∙ old.top;
+        top = counts (from_bucket a (first_bucket profile moment + most_buckets profile)) ∙ old.top;
         early = old.early;
       });
 }

@@ -1,6 +1,6 @@
 -- Private: serves proofs of this crate alone; no public contract cites it.
 -- How many entries an AS has: in each bucket, and from a bucket on.
-use Rattle.std.specs.Prelude.{◌≡◌, ℕ, zero, suc, ◌+◌, ◌-◌, ◌≤◌, Bool, ◌&&◌, ◌==◌, nat_lt, nat_le, if◌then◌else◌, List, unwrap_or, count_by}
+use Rattle.std.specs.Prelude.{◌≡◌, ℕ, zero, suc, ◌+◌, ◌-◌, ◌<◌, ◌≤◌, Option, Some, None, Bool, ◌&&◌, ◌==◌, nat_lt, nat_le, if◌then◌else◌, List, unwrap_or, count_by}
 use Rattle.std.specs.Map.{lookup}
 use Rattle.epic_num.specs.Moments.{bucket, live_buckets}
 use Rattle.epic_num.specs.declared.name.AsId.{AsId}
@@ -51,10 +51,35 @@ no_total = record { live = 0; from = 0 }
 unfoldable pub total_of : List (AsId × Total) → AsId → Total
 total_of totals asn = unwrap_or (lookup (λ a. asn.0 == a.0) totals) no_total
 
--- a total brought to a later bucket: all before it are over, and none stands at `most` buckets from its own on
+-- A total brought to a later bucket: without the entries before it, or, where it lies `most` buckets behind or more, by what
+-- stands in so many buckets from there, which is no more than it counted.
 unfoldable pub brought : List (Slot × ℕ) → AsId → Total → ℕ → ℕ → Total
 brought slots asn total first most =
-    record { live = if nat_le most (first - total.from) then 0 else total.live - in_slots slots asn total.from (first - total.from); from = first }
+    record {
+      live =
+          if nat_le most (first - total.from) then total.live - (total.live - in_slots slots asn first most)
+          else total.live - in_slots slots asn total.from (first - total.from);
+      from = first;
+    }
+
+-- a total that reaches the limit is brought to the first live bucket; one below it may count entries that are over
+unfoldable pub settled : Profile → List (Slot × ℕ) → AsId → Total → ℕ → Total
+settled profile slots asn total now =
+    if nat_lt total.live profile.window then total else brought slots asn total (first_bucket profile now) (most_buckets profile)
+
+abbrev pub with_one : Total → Total
+with_one total = record { live = total.live + 1; from = total.from }
+
+-- Totals after an offer of an AS. Below the limit its settled total counts one more; else that is how many are live, and it is
+-- kept unless it counts nothing.
+abbrev pub CountsOne : Profile → List (Slot × ℕ) → AsId → ℕ → List (AsId × Total) → List (AsId × Total) → Option ℕ → Type 0
+CountsOne profile slots asn now old new None =
+    let total = settled profile slots asn (total_of old asn) now in
+    (total.live < profile.window) × ((a : AsId) → total_of new a ≡ (if asn.0 == a.0 then with_one total else total_of old a))
+CountsOne profile slots asn now old new (Some live) =
+    let total = settled profile slots asn (total_of old asn) now in
+    (live ≡ total.live) × (profile.window ≤ live)
+    × ((a : AsId) → total_of new a ≡ (if nat_lt 0 total.live && asn.0 == a.0 then total else total_of old a))
 
 -- a total after an entry of its AS in a bucket is forgotten, if that bucket lies before `first`
 unfoldable pub lowered : ℕ → ℕ → Total → Total
@@ -68,10 +93,11 @@ discounted entries asn first total = record { live = total.live - count_by (betw
 unfoldable pub unless_empty : Total → Total
 unless_empty total = if nat_lt 0 total.live then total else no_total
 
--- the total of an AS counts its entries from a bucket on that isn't past the first live one, and all stand in few buckets from there
+-- the total of an AS counts its entries from a bucket on that isn't past the first live one, and all stand in few buckets from
+-- the first live one on, or before it
 pub record IsTotal (profile : Profile) (entries : Entries) (moment : ℕ) (asn : AsId) (total : Total) : Type 0 where
   pub live_is : total.live ≡ count_by (from_bucket asn total.from) entries
-  pub top : count_by (from_bucket asn (total.from + most_buckets profile)) entries ≡ 0
+  pub top : count_by (from_bucket asn (first_bucket profile moment + most_buckets profile)) entries ≡ 0
   pub early : total.from ≤ first_bucket profile moment
 
 -- slots and totals are those of the entries, at a moment

@@ -9,7 +9,7 @@ use crate::growth::{grow, room};
 use crate::seeded::Seeded;
 use crate::slots::Slots;
 use crate::sweep::sweep;
-use crate::totals::{Total, Totals, keep, put, total_at};
+use crate::totals::{Totals, count_one};
 use crate::turns::{Turns, turn_of};
 use crate::{Offer, WinKey, slots, turns};
 use epic_num::{OutOfMemory, Profile, bucket};
@@ -105,21 +105,11 @@ impl Window {
             return Offer::Seen { first };
         }
         let asn = key.src.asn;
-        let total = total_at(&self.profile, &self.slots, &self.totals, asn, now);
-        if total.live >= self.profile.window {
-            keep(&mut self.totals, asn, total);
-            return Offer::Full { live: total.live };
+        if let Some(live) = count_one(&self.profile, &self.slots, &mut self.totals, asn, now) {
+            return Offer::Full { live };
         }
         turns::add(&mut self.turns, key, turn);
         slots::add(&mut self.slots, asn, bucket(key.ts));
-        put(
-            &mut self.totals,
-            asn,
-            Total {
-                live: total.live + 1,
-                from: total.from,
-            },
-        );
         Offer::Fresh
     }
 }

@@ -1,11 +1,12 @@
-use Rattle.std.proofs.Common.{◌≡◌, ℕ, ◌≤◌, ◌∙◌, sym, ap, refl, arith}
-use Rattle.std.specs.Prelude.{count_by, nat_lt}
-use Rattle.epic_window.specs.Counts.{first_bucket, from_bucket, most_buckets}
+use Rattle.std.proofs.Common.{◌≤◌, ◌∙◌, sym, refl, arith}
+use Rattle.std.specs.Prelude.{nat_lt}
+use Rattle.epic_window.specs.Counts.{settled, total_of}
 use Rattle.epic_window.specs.Room.{room}
+use Rattle.epic_window.specs.declared.totals.Total.{Total}
 use Rattle.epic_window.proofs.Answering.{answers_seen, answers_full, answers_fresh}
 use Rattle.epic_window.proofs.Buckets.{fresh_from, later_bucket}
 use Rattle.epic_window.proofs.SameEntries.{Same-added, Same-refl}
-use Rattle.epic_window.proofs.Tallies.{brought_from, has_total, live_exact, live_from, slot-le, Tallied-added, Tallied-kept, Tallied-later}
+use Rattle.epic_window.proofs.Tallies.{live_exact, live-le, slot-le, total_settled, Tallied-added, Tallied-kept, Tallied-later}
 use Rattle.epic_window.proofs.window.Window.offer.Goals as goal
 
 pub invariant_of-self : goal.invariant_of-self
@@ -23,40 +24,42 @@ returns-in-Some c =
       spare = omega arith;
     })
 
-pub total_at-total-requires : goal.total_at-total-requires
-total_at-total-requires c =
+pub count_one-requires-clause-early : goal.count_one-requires-clause-early
+count_one-requires-clause-early c =
     let later = rw (← c.self.view_is) at c.requires.latest in
     omega (arith, (c.self.invariant.totals_of c.args.key.src.asn).early, later_bucket c.self.inside.profile c.self.inside.latest c.args.now later)
 
-pub keep-requires : goal.keep-requires
-keep-requires c more =
-    has_total c.self.inside.slots.entries c.self.inside.totals.entries c.args.key.src.asn (first_bucket c.self.inside.profile c.args.now) (most_buckets c.self.inside.profile)
-    (rw c.total_at-total.ensures at more)
-
-pub invariant_of-self-then-total-self : goal.invariant_of-self-then-total-self
-invariant_of-self-then-total-self c =
-    let later = rw (← c.self.view_is) at c.requires.latest in
-    Tallied-kept _ _ _ _ _ _ _ c.args.key.src.asn c.total_at-total.result (nat_lt 0 c.total_at-total.result.live) later c.self.invariant
-    (ap (λ t. t.live) c.total_at-total.ensures
-    ∙ live_exact _ _ _ _ _ c.self.invariant c.args.key.src.asn c.args.now later
-    ∙ sym (live_from c.self.inside.profile c.self.inside.turns.entries c.args.now c.args.key.src.asn))
-    (ap (λ t. t.from) c.total_at-total.ensures ∙ brought_from _ _ _ _ _)
-    c.keep.ensures.totals
-
-pub returns-then-total-self : goal.returns-then-total-self
+pub count_one-requires-clause-room : goal.count_one-requires-clause-room
 unfolding room
-returns-then-total-self c =
+count_one-requires-clause-room c = let more = rw (← c.self.view_is) at c.requires.room in omega arith
+
+pub invariant_of-self-in-Some-count_one : goal.invariant_of-self-in-Some-count_one
+invariant_of-self-in-Some-count_one c =
+    let later = rw (← c.self.view_is) at c.requires.latest in
+    let asn = c.args.key.src.asn in
+    let total : Total = settled c.self.inside.profile c.self.inside.slots.entries asn (total_of c.self.inside.totals.entries asn) c.args.now in
+    Tallied-kept _ _ _ _ _ _ _ asn total (nat_lt 0 total.live) later c.self.invariant
+    (total_settled _ _ _ _ _ _ _ _ later c.self.invariant refl)
+    c.in-Some-count_one.ensures.counts.2
+
+pub returns-in-Some-count_one : goal.returns-in-Some-count_one
+unfolding room
+returns-in-Some-count_one c =
     let later = rw (← c.self.view_is) at c.requires.latest in
     let fresh = rw (← c.self.view_is) at c.requires.fresh in
+    let asn = c.args.key.src.asn in
+    let total : Total = settled c.self.inside.profile c.self.inside.slots.entries asn (total_of c.self.inside.totals.entries asn) c.args.now in
+    let counts = c.in-Some-count_one.ensures.counts in
+    let reaches : c.self.inside.profile.window ≤ total.live = omega (arith, counts.0, counts.1) in
     rw (← c.self.view_is)
     (record {
       answers = answers_full _ _ _ _ _ fresh (sym c.turn_of.ensures ∙ c.in_default.is)
-          (ap (λ t. t.live) c.total_at-total.ensures ∙ live_exact _ _ _ _ _ c.self.invariant c.args.key.src.asn c.args.now later)
-          c.if-total-self.true;
+          (counts.0 ∙ live_exact _ _ _ _ _ _ _ total later c.self.invariant refl reaches)
+          counts.1;
       entries = Same-refl _ _ _;
       latest = refl;
       profile = refl;
-      spare = omega (arith, c.keep.ensures.spare);
+      spare = omega (arith, c.in-Some-count_one.ensures.spare);
     })
 
 pub add-requires-clause-room : goal.add-requires-clause-room
@@ -72,42 +75,35 @@ add-requires-2-clause-small c =
     let later = rw (← c.self.view_is) at c.requires.latest in
     let fresh = rw (← c.self.view_is) at c.requires.fresh in
     let asn = c.args.key.src.asn in
-    let first : ℕ = first_bucket c.self.inside.profile c.args.now in
-    let live : c.total_at-total.result.live ≡ count_by (from_bucket asn first) c.self.inside.turns.entries =
-    ap (λ t. t.live) c.total_at-total.ensures
-    ∙ live_exact _ _ _ _ _ c.self.invariant asn c.args.now later
-    ∙ sym (live_from c.self.inside.profile c.self.inside.turns.entries c.args.now asn) in
-    let starts : first ≤ c.bucket.result = omega (arith, c.bucket.ensures.value, fresh_from c.self.inside.profile c.args.key.ts c.args.now fresh) in
-    let le = slot-le c.self.inside.turns.entries c.self.inside.slots.entries asn first c.bucket.result starts (c.self.invariant.slots_of asn c.bucket.result) in
-    omega (arith, live, le, c.if-total-self.false)
-
-pub put-requires : goal.put-requires
-unfolding room
-put-requires c = let more = rw (← c.self.view_is) at c.requires.room in omega arith
+    let total : Total = settled c.self.inside.profile c.self.inside.slots.entries asn (total_of c.self.inside.totals.entries asn) c.args.now in
+    let is = total_settled _ _ _ _ _ _ asn total later c.self.invariant refl in
+    let starts : total.from ≤ c.bucket.result =
+    omega (arith, is.early, c.bucket.ensures.value, fresh_from c.self.inside.profile c.args.key.ts c.args.now fresh) in
+    let le = slot-le c.self.inside.turns.entries c.self.inside.slots.entries asn total.from c.bucket.result starts (c.self.invariant.slots_of asn c.bucket.result) in
+    omega (arith, is.live_is, le, c.in_default-count_one.ensures.counts.0)
 
 pub invariant_of-self-2 : goal.invariant_of-self-2
 invariant_of-self-2 c =
     let later = rw (← c.self.view_is) at c.requires.latest in
     let fresh = rw (← c.self.view_is) at c.requires.fresh in
-    Tallied-added _ _ _ _ _ _ _ _ _ c.args.key c.args.turn c.bucket.result c.total_at-total.result later fresh c.bucket.ensures.value c.self.invariant
-    (ap (λ t. t.live) c.total_at-total.ensures
-    ∙ live_exact _ _ _ _ _ c.self.invariant c.args.key.src.asn c.args.now later
-    ∙ sym (live_from c.self.inside.profile c.self.inside.turns.entries c.args.now c.args.key.src.asn))
-    (ap (λ t. t.from) c.total_at-total.ensures ∙ brought_from _ _ _ _ _)
-    c.add.ensures.entries c.add-2.ensures.counts c.put.ensures.totals
+    Tallied-added _ _ _ _ _ _ _ _ _ c.args.key c.args.turn c.bucket.result _ later fresh c.bucket.ensures.value c.self.invariant
+    (total_settled _ _ _ _ _ _ _ _ later c.self.invariant refl)
+    c.add.ensures.entries c.add-2.ensures.counts c.in_default-count_one.ensures.counts.1
 
 pub returns : goal.returns
 unfolding room
 returns c =
     let later = rw (← c.self.view_is) at c.requires.latest in
     let fresh = rw (← c.self.view_is) at c.requires.fresh in
+    let asn = c.args.key.src.asn in
+    let total : Total = settled c.self.inside.profile c.self.inside.slots.entries asn (total_of c.self.inside.totals.entries asn) c.args.now in
+    let is = total_settled _ _ _ _ _ _ asn total later c.self.invariant refl in
     rw (← c.self.view_is)
     (record {
-      answers = answers_fresh _ _ _ _ _ fresh (sym c.turn_of.ensures ∙ c.in_default.is)
-          (ap (λ t. t.live) c.total_at-total.ensures ∙ live_exact _ _ _ _ _ c.self.invariant c.args.key.src.asn c.args.now later)
-          c.if-total-self.false;
+      answers = answers_fresh _ _ _ _ fresh (sym c.turn_of.ensures ∙ c.in_default.is)
+          (omega (arith, live-le _ _ _ _ _ is, c.in_default-count_one.ensures.counts.0));
       entries = Same-added _ _ _ _ _ _ c.add.ensures.entries c.add.ensures.turns;
       latest = refl;
       profile = refl;
-      spare = omega (arith, c.add.ensures.spare, c.add-2.ensures.spare, c.put.ensures.spare);
+      spare = omega (arith, c.add.ensures.spare, c.add-2.ensures.spare, c.in_default-count_one.ensures.spare);
     })

@@ -8,7 +8,7 @@ use Rattle.epic_window.proofs.window.Window.reserve.Goals as goal
 pub invariant_of-self : goal.invariant_of-self
 invariant_of-self c =
     Tallied-reordered _ _ _ _ _ _ _ _
-    (Tallied-swept _ _ _ _ _ _ _ _ _ c.first_bucket-first.ensures c.self.invariant c.sweep.ensures.turns c.sweep.ensures.slots c.sweep.ensures.totals)
+    (Tallied-swept _ _ _ _ _ _ _ _ _ c.first_bucket-first.ensures.value c.self.invariant c.sweep.ensures.turns c.sweep.ensures.slots c.sweep.ensures.totals)
     c.grow.ensures.permuted c.grow.ensures.slots c.grow.ensures.totals
 
 pub returns-clause-entries : goal.returns-clause-entries
@@ -16,7 +16,7 @@ returns-clause-entries c =
     rw (← c.self.view_is)
     (Same-trans _ _ _ _ _
     (Same-reordered _ _ _ _ c.grow.ensures.permuted c.grow.ensures.turns)
-    (Same-left _ _ _ _ _ c.first_bucket-first.ensures c.sweep.ensures.turns))
+    (Same-left _ _ _ _ _ c.first_bucket-first.ensures.value c.sweep.ensures.turns))
 
 pub returns-clause-kept : goal.returns-clause-kept
 unfolding room
