@@ -1,7 +1,9 @@
 #!/usr/bin/env bash
-# Times the proved cipher, its tags and turns against C and, where it is there, OpenSSL: `bench/compare.sh [RUNS]`. All programs
-# run in turn, each many short times; the least time of each is taken, and ratios are printed, with "ours" as LLVM builds it
-# (more than 1: ours is faster) and "the other build" by Rattle's own compiler. Nothing else should run on the machine.
+# Times the proved cipher, its tags, turns and replay windows against C and, where it is there, OpenSSL: `bench/compare.sh
+# [RUNS]`. All programs run in turn, each many short times; the least time of each is taken, and ratios are printed, with "ours"
+# as LLVM builds it (more than 1: ours is faster) and "the other build" by Rattle's own compiler. Nothing else should run on the
+# machine. PEER=PROGRAM names a program without proofs that prints lines `window, offers with some N live entries of one AS: T
+# ns` for N = 1, 100 and 4096, of 200,000 offers each; without it windows are compared with the other build alone.
 set -u
 root=$(cd "$(dirname "${BASH_SOURCE[0]}")/.." && pwd) || exit 2
 crate=$root/crates/epic_bench
@@ -10,8 +12,9 @@ room=$(mktemp -d) || exit 2
 trap 'rm -rf "$room"' EXIT
 
 # How many rounds a run has, some two milliseconds.
-declare -A rounds=([aes]=600 [cmac]=400 [short]=8000 [turn]=400)
-works=(aes cmac short turn)
+# Those of windows have as many offers as the peer's.
+declare -A rounds=([aes]=600 [cmac]=400 [short]=8000 [turn]=400 [window-1]=200000 [window-100]=200000 [window-4096]=200000)
+works=(aes cmac short turn window-1 window-100 window-4096)
 names=()
 
 build() { # NAME, and rt's words: proves and builds the program
@@ -31,10 +34,10 @@ else
   echo "$cc: not there, skipped"
 fi
 
-# The C program has no turns.
+# The C program has no turns and no windows.
 for name in "${names[@]}"; do
-  if [ "$name" = c ]; then skipped=turn; else skipped=none; fi
-  if ! "$room/$name" digests 3 | cmp -s - <(grep -v "^$skipped " "$crate/stdout"); then
+  if [ "$name" = c ]; then skipped='turn\|window-'; else skipped='none '; fi
+  if ! "$room/$name" digests 3 | cmp -s - <(grep -v "^\($skipped\)" "$crate/stdout"); then
     echo "$name: wrong digests"
     exit 1
   fi
@@ -43,11 +46,18 @@ done
 for ((i = 0; i < runs; i++)); do
   for work in "${works[@]}"; do
     for name in "${names[@]}"; do
-      [ "$name $work" = "c turn" ] && continue
+      case "$name $work" in "c turn" | "c window-"*) continue ;; esac
       "$room/$name" "$work" "${rounds[$work]}" | awk -v name="$name" '{ print name, $1, $(NF - 1) }' >>"$room/times"
     done
   done
 done
+
+# The peer's own lines are the least of several runs each.
+if [ -n "${PEER:-}" ]; then
+  for ((i = 0; i < 3; i++)); do
+    "$PEER" | sed -n 's/^window, offers with some \([0-9]*\) live entries of one AS: \([0-9]*\) ns$/peer window-\1 \2/p' >>"$room/times"
+  done
+fi
 
 # OpenSSL makes its key schedule once for all messages.
 openssl_times() { # NAME
@@ -81,9 +91,15 @@ awk '
     show("a tag of 27 bytes, a key each, C to ours", "short", "c", " (goal 1.0)")
     show("a tag of 1500 bytes, OpenSSL without AES-NI to ours", "cmac", "openssl", " (goal 1.2)")
     show("a tag of 1500 bytes, OpenSSL with AES-NI to ours", "cmac", "aesni", "")
+    show("an offer at 1 live packet, the peer to ours", "window-1", "peer", " (goal 1.0)")
+    show("an offer at 100 live packets, the peer to ours", "window-100", "peer", " (goal 1.0)")
+    show("an offer at 4,096 live packets, the peer to ours", "window-4096", "peer", " (goal 1.0)")
     show("a block in a chain, the other build to ours", "aes", "rattle", "")
     show("a tag of 1500 bytes, the other build to ours", "cmac", "rattle", "")
     show("a tag of 27 bytes, the other build to ours", "short", "rattle", "")
     show("a turn of level 0, the other build to ours", "turn", "rattle", "")
+    show("an offer at 1 live packet, the other build to ours", "window-1", "rattle", "")
+    show("an offer at 100 live packets, the other build to ours", "window-100", "rattle", "")
+    show("an offer at 4,096 live packets, the other build to ours", "window-4096", "rattle", "")
   }
 ' "$room/times"
