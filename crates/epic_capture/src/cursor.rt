@@ -1,6 +1,7 @@
 //! Reads a capture's header and records off the front of the bytes that are held.
 ghost use Rattle.std.specs.Prelude.{◌≡◌, ◌≤◌, ℕ, List, [], length, drop, None, Ok, Err, IfOk, IfErr, IfSome};
 ghost use Rattle.std.specs.Result.{result_err};
+ghost use Rattle.epic_num.specs.declared.moment.TheConstants.{MAX_MOMENT};
 ghost use Rattle.epic_capture.specs.Capture.{head};
 ghost use Rattle.epic_capture.specs.Streams.{Follows, next};
 ghost use Rattle.epic_capture.specs.Reading.{capture, passed, start, with_bytes};
@@ -70,6 +71,7 @@ impl Cursor {
         ensures answer { told_by result self.new.buffer.last ≡ next capture (reading_of self.old) }
         ensures after { Follows capture (reading_of self.old) (told_by result self.new.buffer.last) (reading_of self.new) }
         ensures limit { passed self.new.progress ≤ 67108864 }
+        ensures moment { IfOk result (λ found. IfSome found (λ f. f.moment ≤ MAX_MOMENT)) }
         ensures long { IfOk result (λ found. IfSome found (λ f. 32 ≤ length self.new.buffer.last)) }
     {
         let progress = match self.open() {

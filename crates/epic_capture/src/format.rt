@@ -37,6 +37,7 @@ impl TimeUnit {
     pub(crate) fn microseconds(self, fraction: u32) -> u32
         ensures value { result ≡ microseconds self fraction }
         ensures most { result ≤ fraction }
+        ensures below { fraction ≤ most_fraction self → result ≤ 999999 }
     {
         match self {
             TimeUnit::Microseconds => fraction,

@@ -1,6 +1,9 @@
 //! The record at the front of some bytes, or the first damage there.
-ghost use Rattle.std.specs.Prelude.{◌≡◌, ◌≤◌, ◌<◌, ◌+◌, length};
+ghost use Rattle.std.specs.Prelude.{◌≡◌, ◌≤◌, ◌<◌, ◌+◌, length, drop, IfOk};
+ghost use Rattle.epic_num.specs.declared.moment.TheConstants.{MAX_MOMENT};
 ghost use Rattle.epic_capture.specs.Capture.{passes, found_at, of_place, record_of};
+ghost use Rattle.epic_capture.specs.Moments.{most_fraction};
+ghost use Rattle.epic_capture.specs.Numbers.{number};
 
 use crate::CaptureError;
 use crate::CaptureKind::{Fraction, PseudoHeader, RecordTooLong, TooLong, TooMany, Truncated};
@@ -41,7 +44,8 @@ fn of_place(
     place: Option<Place>,
 ) -> Result<Found, CaptureError>
     requires { offset ≤ 67108864 }
-    ensures { result ≡ of_place offset moment len place }
+    ensures value { result ≡ of_place offset moment len place }
+    ensures moment { IfOk result (λ found. found.moment ≡ moment) }
 {
     match place {
         Some(place) => Ok(Found { moment, place, len }),
@@ -54,7 +58,9 @@ fn of_place(
 fn record_of(progress: &Progress, bytes: &[u8]) -> Result<Found, CaptureError>
     requires header { 32 ≤ length bytes.now }
     requires few { progress.now.offset ≤ 67108864 }
-    ensures { result ≡ record_of progress.now.format progress.now.offset bytes.now }
+    requires fraction { number progress.now.format.order 4 (drop 4 bytes.now) ≤ most_fraction progress.now.format.unit }
+    ensures value { result ≡ record_of progress.now.format progress.now.offset bytes.now }
+    ensures moment { IfOk result (λ found. found.moment ≤ MAX_MOMENT) }
 {
     let order = progress.format.order;
     let seconds = u32_of(order, bytes);
@@ -74,7 +80,8 @@ fn record_of(progress: &Progress, bytes: &[u8]) -> Result<Found, CaptureError>
 #[tactic(auto, unfolding(crate::specs::Capture::found_at, crate::specs::Capture::judged))]
 pub(crate) fn found_at(progress: &Progress, bytes: &[u8]) -> Result<Found, CaptureError>
     requires { progress.now.offset ≤ 67108864 }
-    ensures { result ≡ found_at progress.now.format progress.now.left progress.now.offset bytes.now }
+    ensures value { result ≡ found_at progress.now.format progress.now.left progress.now.offset bytes.now }
+    ensures moment { IfOk result (λ found. found.moment ≤ MAX_MOMENT) }
 {
     let begin = progress.offset;
     let file = begin + bytes.len() as u64;

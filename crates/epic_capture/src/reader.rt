@@ -1,8 +1,9 @@
 //! The reader of a capture that comes in pieces.
-ghost use Rattle.std.specs.Prelude.{◌≡◌, ◌≤◌, ◌-◌, [], length, take, min, None, Ok, IfOk};
+ghost use Rattle.std.specs.Prelude.{◌≡◌, ◌≤◌, ◌-◌, [], length, take, min, None, Ok, IfOk, IfSome};
 ghost use Rattle.std.specs.Result.{result_err};
 ghost use Rattle.std.specs.Borrow.{sem};
 ghost use Rattle.std.specs.Io.BufRead.{Rests};
+ghost use Rattle.epic_num.specs.declared.moment.TheConstants.{MAX_MOMENT};
 ghost use Rattle.epic_capture.specs.Streams.{Follows, next};
 ghost use Rattle.epic_capture.specs.Reading.{capture, start, with_bytes};
 ghost use Rattle.epic_capture.specs.Seen.{seen};
@@ -61,6 +62,7 @@ impl Reader {
     /// damage, and then the same at each call. What is to come is the answer, and then what is to come after it.
     pub fn next_record(&mut self) -> Result<Option<Record<'_>>, CaptureError>
         ensures answer { seen result ≡ next capture self.old }
+        ensures moment { IfOk result (λ found. IfSome found (λ r. r.moment ≤ MAX_MOMENT)) }
         ensures* after { sem 𝓛 (Rests the_row self.entry (λ new. Follows capture self.old (seen result) new)) }
     {
         match self.cursor.advance() {

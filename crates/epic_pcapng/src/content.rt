@@ -1,5 +1,6 @@
 //! What a whole block says.
-ghost use Rattle.std.specs.Prelude.{◌≡◌, ◌≤◌, ◌<◌, ◌+◌, ◌-◌, List, ℕ, length, Result, Ok, Err, OnErr};
+ghost use Rattle.std.specs.Prelude.{◌≡◌, ◌≤◌, ◌<◌, ◌+◌, ◌-◌, List, ℕ, length, Result, Ok, Err, IfOk, IfSome, OnErr};
+ghost use Rattle.epic_num.specs.declared.moment.TheConstants.{MAX_MOMENT};
 ghost use Rattle.epic_pcapng.specs.Blocks.{least};
 ghost use Rattle.epic_pcapng.specs.Grammar.{content, interface_of, section_of, with_packet, without_record};
 ghost use Rattle.epic_pcapng.specs.Packets.{packet_at};
@@ -29,6 +30,7 @@ fn begin_section(
     requires long { 28 ≤ length block.now }
     ensures value { without_record (section_of section.old begin head.now block.now) ≡ stepped result section.new block.now }
     ensures there { IsThere result block.now }
+    ensures moment { IfOk result (λ found. IfSome found (λ f. f.moment ≤ MAX_MOMENT)) }
     ensures err { OnErr result (section.new ≡ section.old) }
 {
     if u16_of(head.order, &block[12..]) != 1 {
@@ -46,6 +48,7 @@ fn add_interface(section: &mut Section, begin: u64, block: &[u8]) -> Result<Opti
     requires short { length block.now ≤ 65536 }
     ensures value { without_record (interface_of section.old begin block.now) ≡ stepped result section.new block.now }
     ensures there { IsThere result block.now }
+    ensures moment { IfOk result (λ found. IfSome found (λ f. f.moment ≤ MAX_MOMENT)) }
     ensures err { OnErr result (section.new ≡ section.old) }
 {
     if u16_of(section.order, &block[8..]) != LINK_TYPE {
@@ -74,6 +77,7 @@ fn take_packet(
     requires bytes { packet.now.bytes_at ≤ 64 }
     ensures value { with_packet section.old block.now (packet_at section.old.left begin packet.now block.now) ≡ stepped result section.new block.now }
     ensures there { IsThere result block.now }
+    ensures moment { IfOk result (λ found. IfSome found (λ f. f.moment ≤ MAX_MOMENT)) }
     ensures err { OnErr result (section.new ≡ section.old) }
 {
     let found = packet_at(section.left, begin, packet, block)?;
@@ -94,6 +98,7 @@ pub(crate) fn content(
     requires short { length block.now ≤ 65536 }
     ensures value { content section.old begin head.now block.now ≡ stepped result section.new block.now }
     ensures there { IsThere result block.now }
+    ensures moment { IfOk result (λ found. IfSome found (λ f. f.moment ≤ MAX_MOMENT)) }
     ensures err { OnErr result (section.new ≡ section.old) }
 {
     match head.kind {

@@ -1,5 +1,6 @@
 //! Reads a capture's blocks off the front of the bytes that are held.
-ghost use Rattle.std.specs.Prelude.{◌≡◌, ◌≢◌, ◌≤◌, ◌+◌, ℕ, List, [], length, take, drop, Some, None, Ok};
+ghost use Rattle.std.specs.Prelude.{◌≡◌, ◌≢◌, ◌≤◌, ◌+◌, ℕ, List, [], length, take, drop, Some, None, Ok, IfOk, IfSome};
+ghost use Rattle.epic_num.specs.declared.moment.TheConstants.{MAX_MOMENT};
 ghost use Rattle.std.specs.Result.{result_err};
 ghost use Rattle.epic_capture.specs.Streams.{Follows, next};
 ghost use Rattle.epic_pcapng.specs.declared.block.Kind.TheVariants.{Other};
@@ -41,6 +42,7 @@ pub(crate) struct Cursor {
 fn unless_early(error: NgError) -> Result<Option<Found>, NgError>
     ensures answer { (bytes : List ℕ) → told_by result bytes ≡ answer_of error }
     ensures there { (bytes : List ℕ) → IsThere result bytes }
+    ensures moment { IfOk result (λ found. IfSome found (λ f. f.moment ≤ MAX_MOMENT)) }
 {
     if error.is_early() {
         Ok(None)
@@ -83,6 +85,7 @@ impl Cursor {
     fn skip_on(&mut self, skip: Skip) -> Result<Option<Found>, NgError>
         requires sound { IsSound (reading_of self.old) }
         requires skip { self.old.skip ≡ Some skip }
+        ensures moment { IfOk result (λ found. IfSome found (λ f. f.moment ≤ MAX_MOMENT)) }
         ensures step { StepsTo (reading_of self.old) result self.new.buffer.last (reading_of self.new) }
         ensures sound { IsSound (reading_of self.new) }
     {
@@ -114,6 +117,7 @@ impl Cursor {
         requires skip { self.old.skip ≡ None }
         requires head { heading self.old.section.order self.old.offset self.old.buffer.held ≡ Ok head.now }
         requires kind { head.now.kind ≢ Other }
+        ensures moment { IfOk result (λ found. IfSome found (λ f. f.moment ≤ MAX_MOMENT)) }
         ensures step { StepsTo (reading_of self.old) result self.new.buffer.last (reading_of self.new) }
         ensures sound { IsSound (reading_of self.new) }
     {
@@ -130,6 +134,7 @@ impl Cursor {
     fn read_block(&mut self) -> Result<Option<Found>, NgError>
         requires sound { IsSound (reading_of self.old) }
         requires skip { self.old.skip ≡ None }
+        ensures moment { IfOk result (λ found. IfSome found (λ f. f.moment ≤ MAX_MOMENT)) }
         ensures step { StepsTo (reading_of self.old) result self.new.buffer.last (reading_of self.new) }
         ensures sound { IsSound (reading_of self.new) }
     {
@@ -150,6 +155,7 @@ impl Cursor {
     /// Passes the next block, or a part of a block that is skipped.
     fn step(&mut self) -> Result<Option<Found>, NgError>
         requires { IsSound (reading_of self.old) }
+        ensures moment { IfOk result (λ found. IfSome found (λ f. f.moment ≤ MAX_MOMENT)) }
         ensures step { StepsTo (reading_of self.old) result self.new.buffer.last (reading_of self.new) }
         ensures sound { IsSound (reading_of self.new) }
     {
@@ -166,6 +172,7 @@ impl Cursor {
         ensures after { Follows ngcapture (reading_of self.old) (told_by result self.new.buffer.last) (reading_of self.new) }
         ensures sound { IsSound (reading_of self.new) }
         ensures there { IsThere result self.new.buffer.last }
+        ensures moment { IfOk result (λ found. IfSome found (λ f. f.moment ≤ MAX_MOMENT)) }
     {
         loop {
             match self.step() {

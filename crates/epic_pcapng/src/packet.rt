@@ -1,5 +1,6 @@
 //! The packet of a block.
 ghost use Rattle.std.specs.Prelude.{◌≡◌, ◌≤◌, ◌<◌, ◌+◌, ℕ, length, IfSome, IfOk};
+ghost use Rattle.epic_num.specs.declared.moment.TheConstants.{MAX_MOMENT};
 ghost use Rattle.epic_pcapng.specs.Packets.{captured_in, moment_in, enhanced, simple, packet_at};
 
 use crate::NgKind::{BlockLength, Moment, PseudoHeader, RecordTooLong, TooMany};
@@ -121,6 +122,7 @@ pub(crate) fn packet_at(
     requires bytes { packet.now.bytes_at ≤ 64 }
     ensures value { result ≡ packet_at left begin packet.now block.now }
     ensures some { IfOk result (λ found. 0 < left) }
+    ensures moment { IfOk result (λ found. found.moment ≤ MAX_MOMENT) }
     ensures there { IfOk result (λ found. found.start + found.len ≤ length block.now) }
 {
     if left == 0 {

@@ -51,7 +51,7 @@ gives old new p found bytes o f new_is limit o_is opening_is bytes_is f_is found
 pub returns-in-Err-found_at-clause-answer : goal.returns-in-Err-found_at-clause-answer
 returns-in-Err-found_at-clause-answer c =
     let all = stops (reading_of c.args.self.now) (reading_of c.open.new.self) c.in-Ok.progress c.in-Err-found_at.error _ _ _
-    c.open.ensures.after c.requires.limit c.open.ensures.answer c.in-Ok.is c.held.ensures.value c.found_at.ensures c.in-Err-found_at.is in
+    c.open.ensures.after c.requires.limit c.open.ensures.answer c.in-Ok.is c.held.ensures.value c.found_at.ensures.value c.in-Err-found_at.is in
     c.unless_early-in-Err-found_at.ensures.answer _ ∙ sym all.next
 
 pub returns-in-Err-found_at-clause-after : goal.returns-in-Err-found_at-clause-after
@@ -59,7 +59,7 @@ returns-in-Err-found_at-clause-after c =
     let old : Reading = reading_of c.args.self.now in
     let new : Reading = reading_of c.open.new.self in
     let all = stops old new c.in-Ok.progress c.in-Err-found_at.error _ _ _
-    c.open.ensures.after c.requires.limit c.open.ensures.answer c.in-Ok.is c.held.ensures.value c.found_at.ensures c.in-Err-found_at.is in
+    c.open.ensures.after c.requires.limit c.open.ensures.answer c.in-Ok.is c.held.ensures.value c.found_at.ensures.value c.in-Err-found_at.is in
     follows_at old new new (answer_of c.in-Err-found_at.error) _ refl (c.unless_early-in-Err-found_at.ensures.answer _)
     (stops_follows old new c.in-Err-found_at.error all)
 
@@ -69,32 +69,32 @@ returns-in-Err-found_at-clause-long c = none_long _ _ c.unless_early-in-Err-foun
 pub behind-requires-clause-some : goal.behind-requires-clause-some
 behind-requires-clause-some c =
     let all = gives (reading_of c.args.self.now) (reading_of c.open.new.self) c.in-Ok.progress c.in-Ok-found_at.found _ _ _
-    c.open.ensures.after c.requires.limit c.open.ensures.answer c.in-Ok.is c.held.ensures.value c.found_at.ensures c.in-Ok-found_at.is in
+    c.open.ensures.after c.requires.limit c.open.ensures.answer c.in-Ok.is c.held.ensures.value c.found_at.ensures.value c.in-Ok-found_at.is in
     all.fits.some
 
 pub behind-requires-clause-few : goal.behind-requires-clause-few
 behind-requires-clause-few c =
     let all = gives (reading_of c.args.self.now) (reading_of c.open.new.self) c.in-Ok.progress c.in-Ok-found_at.found _ _ _
-    c.open.ensures.after c.requires.limit c.open.ensures.answer c.in-Ok.is c.held.ensures.value c.found_at.ensures c.in-Ok-found_at.is in
+    c.open.ensures.after c.requires.limit c.open.ensures.answer c.in-Ok.is c.held.ensures.value c.found_at.ensures.value c.in-Ok-found_at.is in
     all.fits.limit all.limit
 
 pub pass-requires : goal.pass-requires
 pass-requires c =
     let all = gives (reading_of c.args.self.now) (reading_of c.open.new.self) c.in-Ok.progress c.in-Ok-found_at.found _ _ _
-    c.open.ensures.after c.requires.limit c.open.ensures.answer c.in-Ok.is c.held.ensures.value c.found_at.ensures c.in-Ok-found_at.is in
+    c.open.ensures.after c.requires.limit c.open.ensures.answer c.in-Ok.is c.held.ensures.value c.found_at.ensures.value c.in-Ok-found_at.is in
     (omega arith, all.fits.there)
 
 pub returns-clause-answer : goal.returns-clause-answer
 returns-clause-answer c =
     let all = gives (reading_of c.args.self.now) (reading_of c.open.new.self) c.in-Ok.progress c.in-Ok-found_at.found _ _ _
-    c.open.ensures.after c.requires.limit c.open.ensures.answer c.in-Ok.is c.held.ensures.value c.found_at.ensures c.in-Ok-found_at.is in
+    c.open.ensures.after c.requires.limit c.open.ensures.answer c.in-Ok.is c.held.ensures.value c.found_at.ensures.value c.in-Ok-found_at.is in
     ap (λ (bytes : List ℕ). Ok (Some (captured c.in-Ok-found_at.found bytes))) c.pass.ensures.last ∙ sym all.next
 
 pub returns-clause-after : goal.returns-clause-after
 returns-clause-after c =
     let old : Reading = reading_of c.args.self.now in
     let all = gives old (reading_of c.open.new.self) c.in-Ok.progress c.in-Ok-found_at.found _ _ _
-    c.open.ensures.after c.requires.limit c.open.ensures.answer c.in-Ok.is c.held.ensures.value c.found_at.ensures c.in-Ok-found_at.is in
+    c.open.ensures.after c.requires.limit c.open.ensures.answer c.in-Ok.is c.held.ensures.value c.found_at.ensures.value c.in-Ok-found_at.is in
     let new_is : record { progress = Some c.behind.result; held = c.pass.new.self.held } ≡ record { progress = Some (behind c.in-Ok.progress c.in-Ok-found_at.found.len); held = drop c.in-Ok-found_at.found.len c.open.new.self.buffer.held }
     = ap (λ (p : Progress). record { progress = Some p; held = c.pass.new.self.held }) c.behind.ensures
     ∙ ap (λ (xs : List ℕ). record { progress = Some (behind c.in-Ok.progress c.in-Ok-found_at.found.len); held = xs }) c.pass.ensures.held in
@@ -104,12 +104,18 @@ returns-clause-after c =
 pub returns-clause-limit : goal.returns-clause-limit
 returns-clause-limit c =
     let all = gives (reading_of c.args.self.now) (reading_of c.open.new.self) c.in-Ok.progress c.in-Ok-found_at.found _ _ _
-    c.open.ensures.after c.requires.limit c.open.ensures.answer c.in-Ok.is c.held.ensures.value c.found_at.ensures c.in-Ok-found_at.is in
+    c.open.ensures.after c.requires.limit c.open.ensures.answer c.in-Ok.is c.held.ensures.value c.found_at.ensures.value c.in-Ok-found_at.is in
     let is : c.behind.result.offset ≡ c.in-Ok.progress.offset + c.in-Ok-found_at.found.len = ap (λ (p : Progress). p.offset) c.behind.ensures in
     omega (arith, is, all.fits.limit all.limit)
 
 pub returns-clause-long : goal.returns-clause-long
 returns-clause-long c =
     let all = gives (reading_of c.args.self.now) (reading_of c.open.new.self) c.in-Ok.progress c.in-Ok-found_at.found _ _ _
-    c.open.ensures.after c.requires.limit c.open.ensures.answer c.in-Ok.is c.held.ensures.value c.found_at.ensures c.in-Ok-found_at.is in
+    c.open.ensures.after c.requires.limit c.open.ensures.answer c.in-Ok.is c.held.ensures.value c.found_at.ensures.value c.in-Ok-found_at.is in
     omega (arith, ap length c.pass.ensures.last, length-take c.in-Ok-found_at.found.len c.open.new.self.buffer.held, all.fits.header, all.fits.there)
+
+pub returns-in-Err-clause-moment : goal.returns-in-Err-clause-moment
+returns-in-Err-clause-moment c = none_long _ _ c.unless_early.ensures.none
+
+pub returns-in-Err-found_at-clause-moment : goal.returns-in-Err-found_at-clause-moment
+returns-in-Err-found_at-clause-moment c = none_long _ _ c.unless_early-in-Err-found_at.ensures.none
