@@ -1,4 +1,5 @@
 mod Iterated
 mod Numbers
 mod Routing
+mod Taking
 mod Travels

@@ -1,4 +1,5 @@
 pub mod Routed
+pub mod Arrived
 pub mod Turns
 pub mod Works
 pub mod Tasks

@@ -3,7 +3,7 @@ use Rattle.std.specs.Prelude.{ℕ, ◌==◌, ◌<◌, List, [], ◌∷◌, Optio
 use Rattle.std.specs.Option.{option_map, option_and_then}
 use Rattle.epic_num.specs.Names.{number_within}
 use Rattle.epic_bench.specs.declared.work.Work.{Work}
-use Rattle.epic_bench.specs.declared.work.Work.TheVariants.{Aes, Cmac, Short, Turn, Routed}
+use Rattle.epic_bench.specs.declared.work.Work.TheVariants.{Aes, Cmac, Short, Turn, Routed, Arrived}
 use Rattle.epic_num.specs.declared.hop.Level.TheVariants.{L0, L1, L2, L3}
 use Rattle.epic_bench.specs.declared.words.Request.{Request}
 use Rattle.epic_bench.specs.declared.words.Request.TheVariants.{Time, Digests}
@@ -27,6 +27,7 @@ work_of word =
     else if bytes_eq word (codes "turn1") then Some (Routed L1)
     else if bytes_eq word (codes "turn2") then Some (Routed L2)
     else if bytes_eq word (codes "turn3") then Some (Routed L3)
+    else if bytes_eq word (codes "arrive3") then Some Arrived
     else None
 
 -- `digests`, or the name of a work

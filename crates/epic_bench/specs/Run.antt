@@ -7,7 +7,7 @@ use Rattle.epic_bench.specs.declared.top.End.TheVariants.{Done, BadWords, NoCloc
 use Rattle.epic_bench.specs.declared.words.Request.{Request}
 use Rattle.epic_bench.specs.declared.words.Request.TheVariants.{Time, Digests}
 use Rattle.epic_bench.specs.declared.work.Work.{Work}
-use Rattle.epic_bench.specs.declared.work.Work.TheVariants.{Aes, Cmac, Short, Turn, Routed}
+use Rattle.epic_bench.specs.declared.work.Work.TheVariants.{Aes, Cmac, Short, Turn, Routed, Arrived}
 use Rattle.epic_num.specs.declared.hop.Level.TheVariants.{L0, L1, L2, L3}
 use Rattle.epic_bench.specs.Lines.{◌⊕◌, IsLine, IsTimedLine}
 
@@ -21,6 +21,7 @@ pub record AreLines (rounds : ℕ) (text : List ℕ) : Type 0 where
   pub level_1 : List ℕ
   pub level_2 : List ℕ
   pub level_3 : List ℕ
+  pub arrival : List ℕ
   pub is_aes : IsLine Aes rounds aes
   pub is_cmac : IsLine Cmac rounds cmac
   pub is_short : IsLine Short rounds short
@@ -29,7 +30,8 @@ pub record AreLines (rounds : ℕ) (text : List ℕ) : Type 0 where
   pub is_level_1 : IsLine (Routed L1) rounds level_1
   pub is_level_2 : IsLine (Routed L2) rounds level_2
   pub is_level_3 : IsLine (Routed L3) rounds level_3
-  pub joined : text ≡ aes ⊕ (cmac ⊕ (short ⊕ (turn ⊕ (level_0 ⊕ (level_1 ⊕ (level_2 ⊕ level_3))))))
+  pub is_arrival : IsLine Arrived rounds arrival
+  pub joined : text ≡ aes ⊕ (cmac ⊕ (short ⊕ (turn ⊕ (level_0 ⊕ (level_1 ⊕ (level_2 ⊕ (level_3 ⊕ arrival)))))))
 
 -- the text that a request asks for
 abbrev pub IsTextOf : Request → List ℕ → Type 0
@@ -53,20 +55,21 @@ MakesNothing NoPacket = Unit {0}
 MakesNothing WriteFailed = ⊥
 MakesNothing OutOfMemory = Unit {0}
 
--- the work is of turns, which alone need packets
-abbrev pub IsOfTurns : Work → Type 0
-IsOfTurns Aes = ⊥
-IsOfTurns Cmac = ⊥
-IsOfTurns Short = ⊥
-IsOfTurns Turn = Unit {0}
-IsOfTurns (Routed level) = Unit {0}
+-- the work is of turns or arrivals, which alone need packets
+abbrev pub IsOfPackets : Work → Type 0
+IsOfPackets Aes = ⊥
+IsOfPackets Cmac = ⊥
+IsOfPackets Short = ⊥
+IsOfPackets Turn = Unit {0}
+IsOfPackets (Routed level) = Unit {0}
+IsOfPackets Arrived = Unit {0}
 
 -- why a work couldn't be made ready
 abbrev pub IsUnready : Work → End → Type 0
 IsUnready work Done = ⊥
 IsUnready work BadWords = ⊥
 IsUnready work NoClock = ⊥
-IsUnready work NoPacket = IsOfTurns work
+IsUnready work NoPacket = IsOfPackets work
 IsUnready work WriteFailed = ⊥
 IsUnready work OutOfMemory = Unit {0}
 
@@ -77,7 +80,7 @@ ReadsClock (Digests rounds) = ⊥
 
 -- and a packet is made only where turns are
 abbrev pub NeedsPacket : Request → Type 0
-NeedsPacket (Time work rounds) = IsOfTurns work
+NeedsPacket (Time work rounds) = IsOfPackets work
 NeedsPacket (Digests rounds) = Unit {0}
 
 -- why there is no text

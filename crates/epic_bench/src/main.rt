@@ -1,6 +1,7 @@
-//! Measures the cipher, its tags, and a router's turns.
+//! Measures the cipher, its tags, turns of routers and arrivals at a host.
 #![tactic(auto)]
 
+mod arrived;
 mod report;
 mod routed;
 #[cfg(test)]

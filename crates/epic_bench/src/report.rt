@@ -68,7 +68,8 @@ fn digest_lines(alloc: Global, rounds: u32) -> Result<String, End>
     let level_1 = digest_line(alloc, Work::Routed(Level::L1), rounds)?;
     let level_2 = digest_line(alloc, Work::Routed(Level::L2), rounds)?;
     let level_3 = digest_line(alloc, Work::Routed(Level::L3), rounds)?;
-    let levels = format!(in alloc; "{level_0}{level_1}{level_2}{level_3}")?;
+    let arrival = digest_line(alloc, Work::Arrived, rounds)?;
+    let levels = format!(in alloc; "{level_0}{level_1}{level_2}{level_3}{arrival}")?;
     Ok(format!(in alloc; "{aes}{cmac}{short}{turn}{levels}")?)
 }
 

@@ -97,7 +97,7 @@ fn stamped_packets(
 }
 
 /// The packet of a number.
-fn packet_at(packets: &[[u8; LEN]], i: u32) -> [u8; LEN]
+pub(crate) fn packet_at(packets: &[[u8; LEN]], i: u32) -> [u8; LEN]
     ensures { result ≡ slice_index_or packets.now i NO_PACKET }
 {
     match packets.get(i as usize) {

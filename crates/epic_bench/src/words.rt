@@ -47,6 +47,7 @@ fn work(word: &str) -> Option<Work>
         "turn1" => Some(Work::Routed(Level::L1)),
         "turn2" => Some(Work::Routed(Level::L2)),
         "turn3" => Some(Work::Routed(Level::L3)),
+        "arrive3" => Some(Work::Arrived),
         _ => None,
     }
 }

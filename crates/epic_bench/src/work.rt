@@ -9,6 +9,7 @@ ghost use Rattle.epic_bench.specs.Tasks.{work_of_task};
 ghost use Rattle.epic_bench.specs.declared.top.End.TheVariants.{OutOfMemory};
 ghost use Rattle.epic_bench.specs.Works.{IsDigest, chained, message, name_of, operations, tagged, unit_of};
 
+use crate::arrived::Arrived;
 use crate::routed::Routed;
 use crate::top::End;
 use crate::turns::turn_rounds;
@@ -31,6 +32,8 @@ pub(crate) enum Work {
     Turn,
     /// Turns of one router, of a packet of a level each.
     Routed(Level),
+    /// Arrivals at one host, of a packet of level 3 each.
+    Arrived,
 }
 
 /// The key of the chain, and the value that each work begins with: the key of the examples of RFC 4493 4.
@@ -52,6 +55,7 @@ impl Work {
             Work::Routed(Level::L1) => "turn1",
             Work::Routed(Level::L2) => "turn2",
             Work::Routed(Level::L3) => "turn3",
+            Work::Arrived => "arrive3",
         }
     }
 
@@ -63,6 +67,7 @@ impl Work {
             Work::Aes => "blocks",
             Work::Cmac | Work::Short => "messages",
             Work::Turn | Work::Routed(_) => "turns",
+            Work::Arrived => "arrivals",
         }
     }
 
@@ -72,7 +77,7 @@ impl Work {
     {
         let each = match self {
             Work::Aes => 64,
-            Work::Cmac | Work::Short | Work::Routed(_) => 1,
+            Work::Cmac | Work::Short | Work::Routed(_) | Work::Arrived => 1,
             Work::Turn => 8,
         };
         each * u64::from(rounds)
@@ -145,6 +150,7 @@ pub(crate) enum Task {
     Short,
     Turn(Way),
     Routed(Level, Routed),
+    Arrived(Arrived),
 }
 
 impl Task {
@@ -159,6 +165,7 @@ impl Task {
             Work::Short => Ok(Task::Short),
             Work::Turn => Ok(Task::Turn(Way::new(alloc)?)),
             Work::Routed(level) => Ok(Task::Routed(level, Routed::new(alloc, level, rounds)?)),
+            Work::Arrived => Ok(Task::Arrived(Arrived::new(alloc, rounds)?)),
         }
     }
 
@@ -173,6 +180,7 @@ impl Task {
             Task::Short => Ok(short_value(rounds)),
             Task::Turn(way) => Ok(turn_rounds(&way.topo, &mut way.packet, rounds)),
             Task::Routed(_, routed) => routed.run(rounds),
+            Task::Arrived(arrived) => arrived.run(rounds),
         }
     }
 }
