@@ -1,7 +1,11 @@
+pub mod Admitted
 pub mod Arrivals
+pub mod Filled
+pub mod FirstRows
 pub mod Legs
 pub mod Made
 pub mod OwnUpdates
+pub mod PathLists
 pub mod Remembered
 pub mod RightTags
 pub mod Ways

@@ -45,7 +45,7 @@ use Rattle.epic_beacon.specs.Segments.{name_of_hop}
 
 -- ---- the packet's parts
 
-count_within : (first hops : ℕ) → update_count first hops ≤ hops
+pub count_within : (first hops : ℕ) → update_count first hops ≤ hops
 unfolding update_count
 count_within first hops = cond_both (level_number (level_of first) == 3) hops 0 (λ n. n ≤ hops) (λ e. omega arith) (λ e. omega arith)
 

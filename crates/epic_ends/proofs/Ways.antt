@@ -29,7 +29,7 @@ later us fs j k d short h =
     get_or-append_right (take j us) (drop j fs) j k d front h
     ∙ (get_or-drop j fs (k - j) d ∙ ap (λ n. get_or fs n d) at)
 
-one_more : {A : Type 0} (us fs : List A) (j : ℕ) (d : A) → j < length us → j < length fs
+pub one_more : {A : Type 0} (us fs : List A) (j : ℕ) (d : A) → j < length us → j < length fs
     → slice_set (take j us ++ drop j fs) j (get_or us j d) ≡ take (j + 1) us ++ drop (j + 1) fs
 one_more us fs j d hu hf =
     let front : length (take j us) ≡ j = length-take-le j us (omega (arith, hu)) in

@@ -1,7 +1,9 @@
 pub mod Admitting
 pub mod Arriving
 pub mod Destinations
+pub mod Filling
 pub mod RightArrivals
 pub mod Sending
 pub mod SentPackets
+pub mod Sources
 pub mod Ways

@@ -1,5 +1,5 @@
 -- What holds of the packets that sources send.
-use Rattle.std.specs.Prelude.{◌≡◌, ℕ, ◌+◌, ◌<◌, ◌≤◌, ◌^◌, true, false, IsTrue, List, [], ◌∷◌, length, Some}
+use Rattle.std.specs.Prelude.{◌≡◌, ℕ, ◌+◌, ◌<◌, ◌≤◌, ◌^◌, true, false, IsTrue, List, [], ◌∷◌, length, None, Some}
 use Rattle.std.specs.List.{All}
 use Rattle.epic_num.specs.declared.hop.HopName.{HopName}
 use Rattle.epic_num.specs.declared.hop.Level.{Level}
@@ -12,7 +12,7 @@ use Rattle.epic_num.specs.Messages.{IsHost}
 use Rattle.epic_num.specs.Paths.{is_lawful, path_start, path_end}
 use Rattle.epic_layout.specs.declared.wire.TheConstants.{MAX_PAYLOAD}
 use Rattle.epic_layout.specs.Contents.{Contents, IsPacket, hop_count, field}
-use Rattle.epic_layout.specs.Layout.{parse}
+use Rattle.epic_layout.specs.Layout.{fault, parse}
 use Rattle.epic_layout.specs.PathRoutes.{route_of}
 use Rattle.epic_layout.specs.Route.{place, is_first, is_last, successor, hop, body}
 use Rattle.epic_layout.specs.Spelling.{spelling}
@@ -53,6 +53,11 @@ abbrev pub MadePacketsHaveFields : Type 0
 MadePacketsHaveFields =
     (t : Network) (legs : List Leg) (first : ℕ) (src dst : HostId) (ts : ℕ) (payload : List ℕ)
     → IsTrue (is_lawful legs) → HasFields t legs (made_packet t legs first src dst ts payload)
+
+-- the bytes are a packet, which has these fields where the path's hops have the authenticators of the topology
+pub record IsRightPacket (t : Network) (legs : List Leg) (bytes : List ℕ) : Type 0 where
+  pub faultless : fault is_first_byte bytes ≡ None
+  pub fields : HaveSigmas t legs → HasFields t legs (parse bytes)
 
 -- the bodies of a path's hops fit their types
 abbrev pub AreInRange : List Leg → Type 0
