@@ -72,7 +72,7 @@ two_generations : (t : Network) (a : AsId) (candidates : List ℕ) (p : Contents
 unfolding generations_from
 two_generations t a candidates p j = two_hops p j
 
-turns_tell_two : (t : Network) (a : AsId) (candidates : List ℕ) (iface now : ℕ) (told : Told) (bytes : List ℕ)
+pub turns_tell_two : (t : Network) (a : AsId) (candidates : List ℕ) (iface now : ℕ) (told : Told) (bytes : List ℕ)
     → TellsTwo (turn_of t a candidates iface now told bytes)
 unfolding turn_of handled
 turns_tell_two t a candidates iface now told bytes =

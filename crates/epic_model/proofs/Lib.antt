@@ -18,3 +18,4 @@ pub mod Example
 pub mod Judging
 pub mod Stepping
 pub mod Telling
+pub mod Standing

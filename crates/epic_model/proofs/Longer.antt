@@ -75,7 +75,7 @@ lookup_behind test (x ∷ xs) ys none more =
     (cases_Bool (test x.0))
 
 -- one entry, or none
-pub one_entry : Option (WinKey × ℕ) → Entries
+unfoldable pub one_entry : Option (WinKey × ℕ) → Entries
 one_entry o = cons_option o []
 
 pub seen_more : (profile : Profile) (es : Entries) (o : Option (WinKey × ℕ)) (now : ℕ) (key : WinKey) → seen profile es now key ≡ None

@@ -5,6 +5,7 @@ pub mod Keeping
 pub mod Passing
 pub mod Sends
 pub mod Sound
+pub mod Standing
 pub mod State
 pub mod Steps
 pub mod Traces

@@ -3,6 +3,7 @@ ghost use Rattle.epic_model.specs.Carried.{HonestPacketsAreProved, HonestPackets
 ghost use Rattle.epic_model.specs.Keeping.{HonestSendsAreProved, HonestSendsArrive, InvArrivals, InvCarries, InvIssues, InvLater, InvOthers, InvPasses, InvSends, InvStart, InvTurns, InvTwice, NextIsUnsent, SomeSendIsHonest};
 ghost use Rattle.epic_model.specs.Sends.{SendsAreKept, SentPacketsHaveRoads};
 ghost use Rattle.epic_model.specs.Sound.{ArrivalsAreSound, TurnsAreSound};
+ghost use Rattle.epic_model.specs.Standing.{HostsStand, OtherHostsStand, OthersStand, RoutersStand, WindowsLast, WindowsTell};
 ghost use Rattle.epic_model.specs.World.{HonestCarriesArrive, HonestCarriesAreProved, VerdictsAreRight, WorldsGoOn, WorldsStart};
 ghost use Rattle.epic_model.specs.Twice.{ArrivalsStayOnce, NoneTwiceByEmissions, NothingTwice, TurnsBeginWell, TurnsStayOnce};
 
@@ -91,4 +92,16 @@ pub fn verdicts_are_right()
 pub fn honest_carries_arrive()
     ensures arrive { HonestCarriesArrive }
     ensures proved { HonestCarriesAreProved }
+{}
+
+/// A law: a window that stands for what the ledger tells of a router or a host tells the same, goes on to as time passes, and
+/// stands for the ledger that a turn or an arrival leaves, where it remembers what was accepted. The windows of others stand as
+/// they are.
+pub fn windows_stand()
+    ensures tell { WindowsTell }
+    ensures last { WindowsLast }
+    ensures routers { RoutersStand }
+    ensures others { OthersStand }
+    ensures hosts { HostsStand }
+    ensures other_hosts { OtherHostsStand }
 {}
