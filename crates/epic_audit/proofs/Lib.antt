@@ -3,6 +3,7 @@ pub mod Walked
 mod Narrowed
 pub mod Passed
 mod Before
+pub mod Linked
 pub mod Decided
 pub mod Queries
 pub mod Chained

@@ -26,7 +26,7 @@ use Rattle.epic_ledger.specs.Queries.{issue_of, send_of, is_pass_of, same_path, 
 use Rattle.epic_num.specs.Levels.{is_updated}
 use Rattle.epic_fields.specs.PacketTags.{field_name, dest_name}
 use Rattle.epic_audit.specs.Reveals.{is_revealed, reveal_step, least_step}
-use Rattle.epic_num.specs.Chains.{no_name}
+use Rattle.epic_num.specs.Chains.{Issue, issue_at, name_of, no_name}
 use Rattle.epic_audit.specs.Verdicts.{is_named, is_twin, is_twin_pass, twin_issue, broken_chain, has_update, twin_pass, opened_or_forged}
 use Rattle.epic_audit.specs.declared.uncovered.Uncovered.{Uncovered}
 
@@ -67,6 +67,12 @@ is_alike p q = q.first == p.first && same_host q.dst p.dst && same_path q.route 
 abbrev pub if_alike : Contents → Option (ℕ × Contents) → Option (ℕ × ℕ)
 if_alike p None = None
 if_alike p (Some s) = if is_alike p s.1 then Some (s.0, hop_count s.1) else None
+
+-- ---- issues
+
+-- the issue of a number goes on from one of z
+unfoldable pub is_linked : List Issue → ℕ → HopName → Bool
+is_linked issues number z = option_map_or (λ i. is_named z (name_of issues i.parent)) (issue_at issues number) false
 
 -- ---- hops that aren't covered
 

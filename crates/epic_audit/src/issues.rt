@@ -1,9 +1,11 @@
 //! Searches among the hops that were issued.
-ghost use Rattle.std.specs.Prelude.{◌≡◌, ◌+◌, ◌<◌, ◌^◌, ◌∷◌, length, drop, find, option_map, IsTrue};
+ghost use Rattle.std.specs.Prelude.{◌≡◌, ◌+◌, ◌<◌, ◌^◌, ◌∷◌, length, drop, find, option_map, Some, IsTrue};
 ghost use Rattle.std.specs.List.{list_any};
 ghost use Rattle.epic_num.specs.Chains.{name_of};
 ghost use Rattle.epic_topo.specs.Network.{has};
 ghost use Rattle.epic_ledger.specs.Facts.{facts_of};
+ghost use Rattle.epic_ledger.specs.Queries.{issue_of};
+ghost use Rattle.epic_audit.specs.Searches as searches;
 ghost use Rattle.epic_audit.specs.Verdicts as verdicts;
 
 use crate::twins::is_twin;
@@ -50,9 +52,33 @@ fn is_named(ledger: &Ledger, number: u32, z: &HopName) -> bool
     }
 }
 
-/// Whether some issue of `y` goes on from one of `z`.
+/// Whether the issue of a number goes on from one of `z`.
+#[tactic(auto, unfolding(crate::specs::Searches::is_linked))]
+fn is_linked(ledger: &Ledger, number: u32, z: &HopName) -> bool
+    ensures { result ≡ searches.is_linked (facts_of ledger.now.history).issues number z.now }
+{
+    match ledger.issue(number) {
+        Some((_, parent)) => is_named(ledger, parent, z),
+        None => false,
+    }
+}
+
+/// Whether some issue of `y`, of which this is the first, goes on from one of `z`. The others are looked at only where the
+/// first doesn't, which takes two hops with one link tag.
+#[tactic(auto, using(crate::proofs::Linked::linked_first))]
+fn goes_on(ledger: &Ledger, number: u32, y: &HopName, z: &HopName) -> bool
+    requires { Some number ≡ issue_of (facts_of ledger.now.history).issues y.now }
+    ensures { result ≡ list_any (verdicts.is_child (facts_of ledger.now.history).issues y.now z.now) (facts_of ledger.now.history).issues }
+{
+    if is_linked(ledger, number, z) {
+        return true;
+    }
+    any_goes_on(ledger, y, z)
+}
+
+/// The same by a walk along all issues.
 #[tactic(auto, unfolding(crate::specs::Verdicts::is_child))]
-fn goes_on(ledger: &Ledger, y: &HopName, z: &HopName) -> bool
+fn any_goes_on(ledger: &Ledger, y: &HopName, z: &HopName) -> bool
     ensures { result ≡ list_any (verdicts.is_child (facts_of ledger.now.history).issues y.now z.now) (facts_of ledger.now.history).issues }
 {
     for index in 0..ledger.issues() {
@@ -83,7 +109,7 @@ pub fn broken_between(ledger: &Ledger, y: &HopName, z: &HopName) -> Option<(HopN
     ensures { result ≡ verdicts.broken_between (facts_of ledger.now.history).issues y.now z.now }
 {
     let number = ledger.issue_of(y)?;
-    if goes_on(ledger, y, z) {
+    if goes_on(ledger, number, y, z) {
         return None;
     }
     Some((*z, parent_name(ledger, number)))

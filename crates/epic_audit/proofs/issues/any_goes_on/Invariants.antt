@@ -2,7 +2,7 @@ use Rattle.std.proofs.Common.{◌≡◌, drop}
 use Rattle.std.specs.List.{list_any}
 use Rattle.epic_ledger.specs.Facts.{facts_of}
 use Rattle.epic_audit.specs.Verdicts.{is_child}
-use Rattle.epic_audit.proofs.issues.goes_on.Given as goal
+use Rattle.epic_audit.proofs.issues.any_goes_on.Given as goal
 
 abbrev pub invariant-loop-index : goal.invariant-loop-index
 invariant-loop-index l =
