@@ -116,7 +116,8 @@ impl Ledger {
         ensures lawful { IsLawful self.now.history }
     {
         (
-            self.log.spare()
+            self.log
+                .spare()
                 .min(self.sends.spare())
                 .min(self.passes.spare())
                 .min(self.paths.spare())

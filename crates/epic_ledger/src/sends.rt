@@ -5,11 +5,11 @@ ghost use Rattle.epic_ledger.specs.History.{emission_at};
 ghost use Rattle.epic_ledger.specs.Queries as queries;
 ghost use Rattle.epic_ledger.specs.Walks.{issue_of_hop, sent_with};
 
+use crate::Ledger;
 use crate::emissions::Emissions;
 use crate::log::Log;
 use crate::send_index::{Origin, first_send};
 use crate::spot::spot_of;
-use crate::Ledger;
 use epic_num::HostId;
 
 /// A packet that was sent: its emission, and the last issue of each segment of its path.
@@ -47,7 +47,12 @@ impl Ledger {
     pub fn send_of(&self, src: HostId, ts: u64) -> Option<u32>
         ensures { result ≡ option_map (λ s. s.emission) (queries.send_of (facts_of self.now.history).sends src ts) }
     {
-        match first_send(&self.sends, self.log.events(), &self.emissions, Origin { src, ts }) {
+        match first_send(
+            &self.sends,
+            self.log.events(),
+            &self.emissions,
+            Origin { src, ts },
+        ) {
             Some(sending) => Some(sending.emission),
             None => None,
         }
@@ -58,7 +63,12 @@ impl Ledger {
     pub fn send_hop(&self, src: HostId, ts: u64, hop: u8) -> Option<u32>
         ensures { result ≡ queries.send_hop (facts_of self.now.history) src ts hop }
     {
-        match first_send(&self.sends, self.log.events(), &self.emissions, Origin { src, ts }) {
+        match first_send(
+            &self.sends,
+            self.log.events(),
+            &self.emissions,
+            Origin { src, ts },
+        ) {
             Some(sending) => issue_at_hop(&self.log, &self.emissions, sending, hop),
             None => None,
         }
