@@ -83,18 +83,45 @@ fn values_of(
     Ok(values)
 }
 
+/// Puts a value into list 0 of either family, where there is room.
+fn put_first(pool: &mut Pool<u32>, value: u32) -> Result<u32, Fail>
+    requires lists_a { length pool.old.a ≡ 2 }
+    requires lists_b { length pool.old.b ≡ 1 }
+    ensures a { length pool.new.a ≡ 2 }
+    ensures b { length pool.new.b ≡ 1 }
+{
+    match pool.insert(0, 0, value) {
+        Ok(node) => Ok(node),
+        Err(_) => Err(Fail::from(OutOfMemory)),
+    }
+}
+
+/// Puts so many values into list 0 of either family, and answers the first node.
+fn fill(pool: &mut Pool<u32>, count: u32) -> Result<u32, Fail>
+    requires a { length pool.old.a ≡ 2 }
+    requires b { length pool.old.b ≡ 1 }
+    ensures a { length pool.new.a ≡ 2 }
+    ensures b { length pool.new.b ≡ 1 }
+{
+    let first = put_first(pool, 0)?;
+    for i in 1..count {
+        put_first(pool, i)?;
+    }
+    Ok(first)
+}
+
 #[test]
 fn a_full_pool_gives_the_value_back(rt: HostRuntime) -> Result<(), Fail> {
-    let mut pool = Pool::new(rt.alloc(), 3, 3)?;
+    let mut pool = Pool::new(rt.alloc(), 2, 1)?;
     assert_eq!(rt; pool.spare(), 0);
     pool.reserve(2)?;
     let room = pool.spare();
     assert!(rt; room >= 2);
-    let nodes = put_all(rt.alloc(), &mut pool, room)?;
+    let first = fill(&mut pool, room)?;
     assert_eq!(rt; pool.spare(), 0);
     assert!(rt; matches!(pool.insert(0, 0, 9), Err(Full(9))));
-    remove_fifths(&rt, &mut pool, &nodes);
-    assert!(rt; pool.spare() >= 1);
+    assert!(rt; pool.is_live(first));
+    assert_eq!(rt; pool.remove(first), 0);
     assert!(rt; pool.insert(0, 0, 9).is_ok());
     Ok(())
 }
