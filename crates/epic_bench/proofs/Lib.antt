@@ -1,5 +1,6 @@
 mod Iterated
 mod Numbers
+mod Offering
 mod Routing
 mod Taking
 mod Travels

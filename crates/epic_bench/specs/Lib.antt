@@ -1,5 +1,6 @@
 pub mod Routed
 pub mod Arrived
+pub mod Offers
 pub mod Turns
 pub mod Works
 pub mod Tasks

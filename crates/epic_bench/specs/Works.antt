@@ -9,10 +9,12 @@ use Rattle.epic_topo.specs.Network.{Network}
 use Rattle.epic_topo.specs.Reading.{topology}
 use Rattle.epic_bench.specs.declared.way.TheConstants.{CHAIN}
 use Rattle.epic_bench.specs.declared.work.TheConstants.{KEY}
+use Rattle.epic_bench.specs.declared.work.Load.TheVariants.{One, Hundred, Thousands}
 use Rattle.epic_bench.specs.declared.work.Work.{Work}
-use Rattle.epic_bench.specs.declared.work.Work.TheVariants.{Aes, Cmac, Short, Turn, Routed, Arrived}
+use Rattle.epic_bench.specs.declared.work.Work.TheVariants.{Aes, Cmac, Short, Turn, Routed, Arrived, Window}
 use Rattle.epic_num.specs.declared.hop.Level.TheVariants.{L0, L1, L2, L3}
 use Rattle.epic_bench.specs.Arrived.{IsArrivedDigest}
+use Rattle.epic_bench.specs.Offers.{offers_digest}
 use Rattle.epic_bench.specs.Routed.{IsRoutedDigest}
 use Rattle.epic_bench.specs.Turns.{turns_digest}
 
@@ -38,6 +40,7 @@ IsDigest Turn rounds digest =
     (t : Network) × (topology CHAIN.now ≡ Ok t) × ((packet : List ℕ) × (digest ≡ turns_digest t packet rounds))
 IsDigest (Routed level) rounds digest = IsRoutedDigest rounds digest
 IsDigest Arrived rounds digest = IsArrivedDigest rounds digest
+IsDigest (Window load) rounds digest = digest ≡ offers_digest load rounds
 
 -- how many operations a round has
 abbrev pub operations_a_round : Work → ℕ
@@ -47,6 +50,7 @@ operations_a_round Short = 1
 operations_a_round Turn = 8
 operations_a_round (Routed level) = 1
 operations_a_round Arrived = 1
+operations_a_round (Window load) = 1
 
 abbrev pub operations : Work → ℕ → ℕ
 operations work rounds = operations_a_round work * rounds
@@ -62,6 +66,9 @@ name_of (Routed L1) = codes "turn1"
 name_of (Routed L2) = codes "turn2"
 name_of (Routed L3) = codes "turn3"
 name_of Arrived = codes "arrive3"
+name_of (Window One) = codes "window-1"
+name_of (Window Hundred) = codes "window-100"
+name_of (Window Thousands) = codes "window-4096"
 
 -- what its operations are called
 abbrev pub unit_of : Work → List ℕ
@@ -71,3 +78,4 @@ unit_of Short = codes "messages"
 unit_of Turn = codes "turns"
 unit_of (Routed level) = codes "turns"
 unit_of Arrived = codes "arrivals"
+unit_of (Window load) = codes "offers"

@@ -1,7 +1,8 @@
-//! Measures the cipher, its tags, turns of routers and arrivals at a host.
+//! Measures the cipher, its tags, turns of routers, arrivals at a host, and offers to a replay window.
 #![tactic(auto)]
 
 mod arrived;
+mod offers;
 mod report;
 mod routed;
 #[cfg(test)]

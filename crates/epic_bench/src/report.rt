@@ -10,7 +10,7 @@ ghost use Rattle.epic_bench.specs.Works.{IsDigest};
 
 use crate::top::End;
 use crate::words::Request;
-use crate::work::{Task, Work};
+use crate::work::{Load, Task, Work};
 use epic_num::Level;
 use std::alloc::{AllocError, Global};
 use std::rt::Clock;
@@ -51,7 +51,7 @@ fn digest_line(alloc: Global, work: Work, rounds: u32) -> Result<String, End>
     ensures err { IfErr result (IsUnready work) }
 {
     let mut task = Task::new(alloc, work, rounds)?;
-    let digest = task.run(rounds)?;
+    let digest = task.run(alloc, rounds)?;
     Ok(line(alloc, work, rounds, &digest, "")?)
 }
 
@@ -69,19 +69,27 @@ fn digest_lines(alloc: Global, rounds: u32) -> Result<String, End>
     let level_2 = digest_line(alloc, Work::Routed(Level::L2), rounds)?;
     let level_3 = digest_line(alloc, Work::Routed(Level::L3), rounds)?;
     let arrival = digest_line(alloc, Work::Arrived, rounds)?;
-    let levels = format!(in alloc; "{level_0}{level_1}{level_2}{level_3}{arrival}")?;
+    let one = digest_line(alloc, Work::Window(Load::One), rounds)?;
+    let hundred = digest_line(alloc, Work::Window(Load::Hundred), rounds)?;
+    let thousands = digest_line(alloc, Work::Window(Load::Thousands), rounds)?;
+    let windows = format!(in alloc; "{one}{hundred}{thousands}")?;
+    let levels = format!(in alloc; "{level_0}{level_1}{level_2}{level_3}{arrival}{windows}")?;
     Ok(format!(in alloc; "{aes}{cmac}{short}{turn}{levels}")?)
 }
 
 /// The digest of a work, and how many nanoseconds its rounds took.
-fn timed(rt: &impl Clock, task: &mut Task, rounds: u32) -> Result<([u8; 16], u64), End>
+fn timed<R: Clock + AllocGlobal>(
+    rt: &R,
+    task: &mut Task,
+    rounds: u32,
+) -> Result<([u8; 16], u64), End>
     ensures ok { IfOk result (λ answer. IsDigest (work_of_task task.old) rounds answer.0) }
     ensures err { IfErr result (GivesNothing (Request.Time (work_of_task task.old) rounds)) }
 {
     let Ok(start) = Instant::now(rt) else {
         return Err(End::NoClock);
     };
-    let digest = task.run(rounds)?;
+    let digest = task.run(rt.alloc(), rounds)?;
     let Ok(time) = start.elapsed(rt) else {
         return Err(End::NoClock);
     };

@@ -79,6 +79,14 @@ fn prints_times(rt: HostRuntime) -> Result<(), Fail> {
             ["turn", "1"],
             "turn 8 turns 48f9193ee2da264ffab16fce6c3609cf 125000.0 ns\n",
         ),
+        (
+            ["turn3", "2"],
+            "turn3 2 turns e4eb03bb450921fe451ad63b0e2b379a 500000.0 ns\n",
+        ),
+        (
+            ["window-4096", "2"],
+            "window-4096 2 offers e4eb03bb450921fe451ad63b0e2b379a 500000.0 ns\n",
+        ),
     ] {
         check_run(&rt, rt.alloc(), &words, true, 0, (0, text, ""))?;
     }

@@ -48,7 +48,7 @@ fn pass(topo: &Topology, packet: &mut [u8]) -> u64
     accepted
 }
 
-/// The tag of how many turns accepted the packet, and of the packet as it was left.
+/// The tag of how many turns accepted the packet, and of the packet as it was left; also of how many offers were fresh.
 #[tactic(auto, unfolding(epic_num::specs::BigEndian::u64_bytes))]
 pub(crate) fn digest(accepted: u64, packet: &[u8]) -> [u8; 16]
     ensures { result ≡ cmac KEY (u64_bytes accepted ++ packet.now) }

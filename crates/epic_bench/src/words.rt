@@ -4,7 +4,7 @@ ghost use Rattle.std.specs.Prelude.{◌≡◌, ◌<◌, map, IfSome};
 ghost use Rattle.std.specs.String.{string_bytes};
 ghost use Rattle.epic_bench.specs.Request.{HasRounds, request_of, rounds_of, work_of};
 
-use crate::work::Work;
+use crate::work::{Load, Work};
 use epic_num::{Level, read_number};
 
 /// What the words ask for.
@@ -48,6 +48,9 @@ fn work(word: &str) -> Option<Work>
         "turn2" => Some(Work::Routed(Level::L2)),
         "turn3" => Some(Work::Routed(Level::L3)),
         "arrive3" => Some(Work::Arrived),
+        "window-1" => Some(Work::Window(Load::One)),
+        "window-100" => Some(Work::Window(Load::Hundred)),
+        "window-4096" => Some(Work::Window(Load::Thousands)),
         _ => None,
     }
 }

@@ -10,6 +10,7 @@ ghost use Rattle.epic_bench.specs.declared.top.End.TheVariants.{OutOfMemory};
 ghost use Rattle.epic_bench.specs.Works.{IsDigest, chained, message, name_of, operations, tagged, unit_of};
 
 use crate::arrived::Arrived;
+use crate::offers::offer_rounds;
 use crate::routed::Routed;
 use crate::top::End;
 use crate::turns::turn_rounds;
@@ -34,6 +35,17 @@ pub(crate) enum Work {
     Routed(Level),
     /// Arrivals at one host, of a packet of level 3 each.
     Arrived,
+    /// Offers of new packets to a replay window.
+    Window(Load),
+}
+
+/// About how many packets of their AS are live in a window that they are offered to.
+#[derive(Clone, Copy, Debug)]
+pub(crate) enum Load {
+    One,
+    Hundred,
+    /// 4,096.
+    Thousands,
 }
 
 /// The key of the chain, and the value that each work begins with: the key of the examples of RFC 4493 4.
@@ -56,6 +68,9 @@ impl Work {
             Work::Routed(Level::L2) => "turn2",
             Work::Routed(Level::L3) => "turn3",
             Work::Arrived => "arrive3",
+            Work::Window(Load::One) => "window-1",
+            Work::Window(Load::Hundred) => "window-100",
+            Work::Window(Load::Thousands) => "window-4096",
         }
     }
 
@@ -68,6 +83,7 @@ impl Work {
             Work::Cmac | Work::Short => "messages",
             Work::Turn | Work::Routed(_) => "turns",
             Work::Arrived => "arrivals",
+            Work::Window(_) => "offers",
         }
     }
 
@@ -77,7 +93,7 @@ impl Work {
     {
         let each = match self {
             Work::Aes => 64,
-            Work::Cmac | Work::Short | Work::Routed(_) | Work::Arrived => 1,
+            Work::Cmac | Work::Short | Work::Routed(_) | Work::Arrived | Work::Window(_) => 1,
             Work::Turn => 8,
         };
         each * u64::from(rounds)
@@ -151,6 +167,7 @@ pub(crate) enum Task {
     Turn(Way),
     Routed(Level, Routed),
     Arrived(Arrived),
+    Window(Load),
 }
 
 impl Task {
@@ -166,11 +183,12 @@ impl Task {
             Work::Turn => Ok(Task::Turn(Way::new(alloc)?)),
             Work::Routed(level) => Ok(Task::Routed(level, Routed::new(alloc, level, rounds)?)),
             Work::Arrived => Ok(Task::Arrived(Arrived::new(alloc, rounds)?)),
+            Work::Window(load) => Ok(Task::Window(load)),
         }
     }
 
     /// Does so many rounds, and gives their digest.
-    pub(crate) fn run(&mut self, rounds: u32) -> Result<[u8; 16], End>
+    pub(crate) fn run(&mut self, alloc: Global, rounds: u32) -> Result<[u8; 16], End>
         ensures ok { IfOk result (IsDigest (work_of_task self.old) rounds) }
         ensures err { IfErr result (λ end. end ≡ OutOfMemory) }
     {
@@ -181,6 +199,7 @@ impl Task {
             Task::Turn(way) => Ok(turn_rounds(&way.topo, &mut way.packet, rounds)),
             Task::Routed(_, routed) => routed.run(rounds),
             Task::Arrived(arrived) => arrived.run(rounds),
+            Task::Window(load) => offer_rounds(alloc, *load, rounds),
         }
     }
 }
