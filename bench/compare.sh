@@ -1,12 +1,13 @@
 #!/usr/bin/env bash
-# Times the proved cipher, its tags, turns, arrivals and replay windows against C and, where it is there, OpenSSL:
+# Times the proved cipher, its tags, turns, arrivals, sends and replay windows against C and, where it is there, OpenSSL:
 # `bench/compare.sh [RUNS]`. All programs run in turn, each many short times; the least time of each is taken, and ratios are
 # printed, with "ours" as LLVM builds it (more than 1: ours is faster) and "the other build" by Rattle's own compiler. Nothing
 # else should run on the machine. PEER=PROGRAM names a program without proofs that prints these lines (T: nanoseconds):
 #   `router turns per second, level L, .. hop 1 N (T ns) ..` for L = 0 to 3, of 20,000 packets each;
 #   `arrival of level 3 over 8 hops: N per second (T ns)`, of 20,000 packets;
+#   `send of level 3 over 8 hops, ..: N per second (T ns)`, of 20,000 packets, each a step of its world that keeps what is sent;
 #   `window, offers with some N live entries of one AS: T ns` for N = 1, 100 and 4096, of 200,000 offers each.
-# Without it turns, arrivals and windows are compared with the other build alone.
+# Without it turns, arrivals, sends and windows are compared with the other build alone.
 set -u
 root=$(cd "$(dirname "${BASH_SOURCE[0]}")/.." && pwd) || exit 2
 crate=$root/crates/epic_bench
@@ -17,9 +18,9 @@ trap 'rm -rf "$room"' EXIT
 # How many rounds a run has, some two milliseconds.
 declare -A rounds=([aes]=600 [cmac]=400 [short]=8000 [turn]=400)
 # These have as many packets or offers as the peer's.
-rounds+=([turn0]=20000 [turn1]=20000 [turn2]=20000 [turn3]=20000 [arrive3]=20000)
+rounds+=([turn0]=20000 [turn1]=20000 [turn2]=20000 [turn3]=20000 [arrive3]=20000 [send3]=20000)
 rounds+=([window-1]=200000 [window-100]=200000 [window-4096]=200000)
-works=(aes cmac short turn turn0 turn1 turn2 turn3 arrive3 window-1 window-100 window-4096)
+works=(aes cmac short turn turn0 turn1 turn2 turn3 arrive3 send3 window-1 window-100 window-4096)
 names=()
 
 build() { # NAME, and rt's words: proves and builds the program
@@ -39,9 +40,9 @@ else
   echo "$cc: not there, skipped"
 fi
 
-# The C program has no turns, no arrivals and no windows.
+# The C program has no turns, arrivals, sends or windows.
 for name in "${names[@]}"; do
-  if [ "$name" = c ]; then skipped='turn\|arrive\|window-'; else skipped='none '; fi
+  if [ "$name" = c ]; then skipped='turn\|arrive\|send\|window-'; else skipped='none '; fi
   if ! "$room/$name" digests 3 | cmp -s - <(grep -v "^\($skipped\)" "$crate/stdout"); then
     echo "$name: wrong digests"
     exit 1
@@ -51,7 +52,7 @@ done
 for ((i = 0; i < runs; i++)); do
   for work in "${works[@]}"; do
     for name in "${names[@]}"; do
-      case "$name $work" in "c turn"* | "c arrive"* | "c window-"*) continue ;; esac
+      case "$name $work" in "c turn"* | "c arrive"* | "c send"* | "c window-"*) continue ;; esac
       "$room/$name" "$work" "${rounds[$work]}" | awk -v name="$name" '{ print name, $1, $(NF - 1) }' >>"$room/times"
     done
   done
@@ -63,6 +64,7 @@ if [ -n "${PEER:-}" ]; then
     "$PEER" | sed -n \
       -e 's/^router turns per second, level \([0-3]\),.* hop 1 [0-9]* (\([0-9]*\) ns).*$/peer turn\1 \2/p' \
       -e 's/^arrival of level \([0-3]\) over 8 hops: [0-9]* per second (\([0-9]*\) ns)$/peer arrive\1 \2/p' \
+      -e 's/^send of level \([0-3]\) over 8 hops,.*: [0-9]* per second (\([0-9]*\) ns)$/peer send\1 \2/p' \
       -e 's/^window, offers with some \([0-9]*\) live entries of one AS: \([0-9]*\) ns$/peer window-\1 \2/p' >>"$room/times"
   done
 fi
@@ -102,6 +104,7 @@ awk '
     for (level = 0; level < 4; level++)
       show("a turn of level " level " at one router, the peer to ours", "turn" level, "peer", "")
     show("an arrival of level 3, the peer to ours", "arrive3", "peer", "")
+    show("a send of level 3, the peer to ours", "send3", "peer", " (a step of its world at the peer)")
     show("an offer at 1 live packet, the peer to ours", "window-1", "peer", " (goal 1.0)")
     show("an offer at 100 live packets, the peer to ours", "window-100", "peer", " (goal 1.0)")
     show("an offer at 4,096 live packets, the peer to ours", "window-4096", "peer", " (goal 1.0)")
@@ -112,6 +115,7 @@ awk '
     for (level = 0; level < 4; level++)
       show("a turn of level " level " at one router, the other build to ours", "turn" level, "rattle", "")
     show("an arrival of level 3, the other build to ours", "arrive3", "rattle", "")
+    show("a send of level 3, the other build to ours", "send3", "rattle", "")
     show("an offer at 1 live packet, the other build to ours", "window-1", "rattle", "")
     show("an offer at 100 live packets, the other build to ours", "window-100", "rattle", "")
     show("an offer at 4,096 live packets, the other build to ours", "window-4096", "rattle", "")

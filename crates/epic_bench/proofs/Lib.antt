@@ -2,5 +2,6 @@ mod Iterated
 mod Numbers
 mod Offering
 mod Routing
+mod Sending
 mod Taking
 mod Travels

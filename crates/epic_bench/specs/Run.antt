@@ -8,7 +8,7 @@ use Rattle.epic_bench.specs.declared.words.Request.{Request}
 use Rattle.epic_bench.specs.declared.words.Request.TheVariants.{Time, Digests}
 use Rattle.epic_bench.specs.declared.work.Load.TheVariants.{One, Hundred, Thousands}
 use Rattle.epic_bench.specs.declared.work.Work.{Work}
-use Rattle.epic_bench.specs.declared.work.Work.TheVariants.{Aes, Cmac, Short, Turn, Routed, Arrived, Window}
+use Rattle.epic_bench.specs.declared.work.Work.TheVariants.{Aes, Cmac, Short, Turn, Routed, Arrived, Sends, Window}
 use Rattle.epic_num.specs.declared.hop.Level.TheVariants.{L0, L1, L2, L3}
 use Rattle.epic_bench.specs.Lines.{◌⊕◌, IsLine, IsTimedLine}
 
@@ -23,6 +23,7 @@ pub record AreLines (rounds : ℕ) (text : List ℕ) : Type 0 where
   pub level_2 : List ℕ
   pub level_3 : List ℕ
   pub arrival : List ℕ
+  pub send : List ℕ
   pub one : List ℕ
   pub hundred : List ℕ
   pub thousands : List ℕ
@@ -35,10 +36,11 @@ pub record AreLines (rounds : ℕ) (text : List ℕ) : Type 0 where
   pub is_level_2 : IsLine (Routed L2) rounds level_2
   pub is_level_3 : IsLine (Routed L3) rounds level_3
   pub is_arrival : IsLine Arrived rounds arrival
+  pub is_send : IsLine Sends rounds send
   pub is_one : IsLine (Window One) rounds one
   pub is_hundred : IsLine (Window Hundred) rounds hundred
   pub is_thousands : IsLine (Window Thousands) rounds thousands
-  pub joined : text ≡ aes ⊕ (cmac ⊕ (short ⊕ (turn ⊕ (level_0 ⊕ (level_1 ⊕ (level_2 ⊕ (level_3 ⊕ (arrival ⊕ (one ⊕ (hundred ⊕ thousands))))))))))
+  pub joined : text ≡ aes ⊕ (cmac ⊕ (short ⊕ (turn ⊕ (level_0 ⊕ (level_1 ⊕ (level_2 ⊕ (level_3 ⊕ (arrival ⊕ (send ⊕ (one ⊕ (hundred ⊕ thousands)))))))))))
 
 -- the text that a request asks for
 abbrev pub IsTextOf : Request → List ℕ → Type 0
@@ -62,7 +64,7 @@ MakesNothing NoPacket = Unit {0}
 MakesNothing WriteFailed = ⊥
 MakesNothing OutOfMemory = Unit {0}
 
--- the work is of turns or arrivals, which alone need packets
+-- the work is of turns, arrivals or sends, which alone need packets
 abbrev pub IsOfPackets : Work → Type 0
 IsOfPackets Aes = ⊥
 IsOfPackets Cmac = ⊥
@@ -70,6 +72,7 @@ IsOfPackets Short = ⊥
 IsOfPackets Turn = Unit {0}
 IsOfPackets (Routed level) = Unit {0}
 IsOfPackets Arrived = Unit {0}
+IsOfPackets Sends = Unit {0}
 IsOfPackets (Window load) = ⊥
 
 -- why a work couldn't be made ready

@@ -11,11 +11,12 @@ use Rattle.epic_bench.specs.declared.way.TheConstants.{CHAIN}
 use Rattle.epic_bench.specs.declared.work.TheConstants.{KEY}
 use Rattle.epic_bench.specs.declared.work.Load.TheVariants.{One, Hundred, Thousands}
 use Rattle.epic_bench.specs.declared.work.Work.{Work}
-use Rattle.epic_bench.specs.declared.work.Work.TheVariants.{Aes, Cmac, Short, Turn, Routed, Arrived, Window}
+use Rattle.epic_bench.specs.declared.work.Work.TheVariants.{Aes, Cmac, Short, Turn, Routed, Arrived, Sends, Window}
 use Rattle.epic_num.specs.declared.hop.Level.TheVariants.{L0, L1, L2, L3}
 use Rattle.epic_bench.specs.Arrived.{IsArrivedDigest}
 use Rattle.epic_bench.specs.Offers.{offers_digest}
 use Rattle.epic_bench.specs.Routed.{IsRoutedDigest}
+use Rattle.epic_bench.specs.Sends.{IsSentDigest}
 use Rattle.epic_bench.specs.Turns.{turns_digest}
 
 -- a message of so many bytes, which count up from the seed modulo 256
@@ -40,6 +41,7 @@ IsDigest Turn rounds digest =
     (t : Network) × (topology CHAIN.now ≡ Ok t) × ((packet : List ℕ) × (digest ≡ turns_digest t packet rounds))
 IsDigest (Routed level) rounds digest = IsRoutedDigest rounds digest
 IsDigest Arrived rounds digest = IsArrivedDigest rounds digest
+IsDigest Sends rounds digest = IsSentDigest rounds digest
 IsDigest (Window load) rounds digest = digest ≡ offers_digest load rounds
 
 -- how many operations a round has
@@ -50,6 +52,7 @@ operations_a_round Short = 1
 operations_a_round Turn = 8
 operations_a_round (Routed level) = 1
 operations_a_round Arrived = 1
+operations_a_round Sends = 1
 operations_a_round (Window load) = 1
 
 abbrev pub operations : Work → ℕ → ℕ
@@ -66,6 +69,7 @@ name_of (Routed L1) = codes "turn1"
 name_of (Routed L2) = codes "turn2"
 name_of (Routed L3) = codes "turn3"
 name_of Arrived = codes "arrive3"
+name_of Sends = codes "send3"
 name_of (Window One) = codes "window-1"
 name_of (Window Hundred) = codes "window-100"
 name_of (Window Thousands) = codes "window-4096"
@@ -78,4 +82,5 @@ unit_of Short = codes "messages"
 unit_of Turn = codes "turns"
 unit_of (Routed level) = codes "turns"
 unit_of Arrived = codes "arrivals"
+unit_of Sends = codes "sends"
 unit_of (Window load) = codes "offers"

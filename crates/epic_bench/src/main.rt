@@ -1,10 +1,11 @@
-//! Measures the cipher, its tags, turns of routers, arrivals at a host, and offers to a replay window.
+//! Measures the cipher, its tags, turns of routers, arrivals at a host, sends, and offers to a replay window.
 #![tactic(auto)]
 
 mod arrived;
 mod offers;
 mod report;
 mod routed;
+mod sends;
 #[cfg(test)]
 mod tests;
 mod top;

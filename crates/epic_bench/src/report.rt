@@ -69,11 +69,13 @@ fn digest_lines(alloc: Global, rounds: u32) -> Result<String, End>
     let level_2 = digest_line(alloc, Work::Routed(Level::L2), rounds)?;
     let level_3 = digest_line(alloc, Work::Routed(Level::L3), rounds)?;
     let arrival = digest_line(alloc, Work::Arrived, rounds)?;
+    let send = digest_line(alloc, Work::Sends, rounds)?;
     let one = digest_line(alloc, Work::Window(Load::One), rounds)?;
     let hundred = digest_line(alloc, Work::Window(Load::Hundred), rounds)?;
     let thousands = digest_line(alloc, Work::Window(Load::Thousands), rounds)?;
     let windows = format!(in alloc; "{one}{hundred}{thousands}")?;
-    let levels = format!(in alloc; "{level_0}{level_1}{level_2}{level_3}{arrival}{windows}")?;
+    let ends = format!(in alloc; "{arrival}{send}{windows}")?;
+    let levels = format!(in alloc; "{level_0}{level_1}{level_2}{level_3}{ends}")?;
     Ok(format!(in alloc; "{aes}{cmac}{short}{turn}{levels}")?)
 }
 

@@ -48,6 +48,7 @@ fn work(word: &str) -> Option<Work>
         "turn2" => Some(Work::Routed(Level::L2)),
         "turn3" => Some(Work::Routed(Level::L3)),
         "arrive3" => Some(Work::Arrived),
+        "send3" => Some(Work::Sends),
         "window-1" => Some(Work::Window(Load::One)),
         "window-100" => Some(Work::Window(Load::Hundred)),
         "window-4096" => Some(Work::Window(Load::Thousands)),

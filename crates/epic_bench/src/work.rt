@@ -12,6 +12,7 @@ ghost use Rattle.epic_bench.specs.Works.{IsDigest, chained, message, name_of, op
 use crate::arrived::Arrived;
 use crate::offers::offer_rounds;
 use crate::routed::Routed;
+use crate::sends::Sends;
 use crate::top::End;
 use crate::turns::turn_rounds;
 use crate::way::Way;
@@ -35,6 +36,8 @@ pub(crate) enum Work {
     Routed(Level),
     /// Arrivals at one host, of a packet of level 3 each.
     Arrived,
+    /// Packets of level 3 that one host sends.
+    Sends,
     /// Offers of new packets to a replay window.
     Window(Load),
 }
@@ -68,6 +71,7 @@ impl Work {
             Work::Routed(Level::L2) => "turn2",
             Work::Routed(Level::L3) => "turn3",
             Work::Arrived => "arrive3",
+            Work::Sends => "send3",
             Work::Window(Load::One) => "window-1",
             Work::Window(Load::Hundred) => "window-100",
             Work::Window(Load::Thousands) => "window-4096",
@@ -83,6 +87,7 @@ impl Work {
             Work::Cmac | Work::Short => "messages",
             Work::Turn | Work::Routed(_) => "turns",
             Work::Arrived => "arrivals",
+            Work::Sends => "sends",
             Work::Window(_) => "offers",
         }
     }
@@ -93,7 +98,8 @@ impl Work {
     {
         let each = match self {
             Work::Aes => 64,
-            Work::Cmac | Work::Short | Work::Routed(_) | Work::Arrived | Work::Window(_) => 1,
+            Work::Cmac | Work::Short | Work::Routed(_) => 1,
+            Work::Arrived | Work::Sends | Work::Window(_) => 1,
             Work::Turn => 8,
         };
         each * u64::from(rounds)
@@ -167,6 +173,7 @@ pub(crate) enum Task {
     Turn(Way),
     Routed(Level, Routed),
     Arrived(Arrived),
+    Sends(Sends),
     Window(Load),
 }
 
@@ -183,6 +190,7 @@ impl Task {
             Work::Turn => Ok(Task::Turn(Way::new(alloc)?)),
             Work::Routed(level) => Ok(Task::Routed(level, Routed::new(alloc, level, rounds)?)),
             Work::Arrived => Ok(Task::Arrived(Arrived::new(alloc, rounds)?)),
+            Work::Sends => Ok(Task::Sends(Sends::new(alloc)?)),
             Work::Window(load) => Ok(Task::Window(load)),
         }
     }
@@ -199,6 +207,7 @@ impl Task {
             Task::Turn(way) => Ok(turn_rounds(&way.topo, &mut way.packet, rounds)),
             Task::Routed(_, routed) => routed.run(rounds),
             Task::Arrived(arrived) => arrived.run(rounds),
+            Task::Sends(sends) => sends.run(alloc, rounds),
             Task::Window(load) => offer_rounds(alloc, *load, rounds),
         }
     }
