@@ -1,0 +1,4 @@
+pub mod Hosts
+pub mod Lasting
+pub mod Routers
+pub mod Telling
