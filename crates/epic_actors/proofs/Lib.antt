@@ -1,6 +1,10 @@
 pub mod Arrived
 pub mod HostTables
 pub mod Lasting
+pub mod Latest
 pub mod Leaving
+pub mod Sendable
+pub mod SendersLast
+pub mod SourceTables
 pub mod Tables
 pub mod Turned
