@@ -1,8 +1,8 @@
 -- The latest timestamp that a ledger tells of each host, after a packet was sent.
-use Rattle.std.proofs.Common.{◌≡◌, ◌≢◌, ℕ, ◌+◌, ◌≤◌, max, Bool, true, false, cond, List, [], ◌∷◌, ◌++◌, length, Option, None, Some, refl, ap, sym, subst, ◌∙◌, ⊎_elim, arith}
+use Rattle.std.proofs.Common.{◌≡◌, ℕ, ◌+◌, max, Bool, true, false, List, [], ◌∷◌, ◌++◌, length, Option, None, Some, refl, ap, ◌∙◌, ⊎_elim, arith}
 use Rattle.std.specs.Prelude.{if◌then◌else◌}
 use Rattle.std.specs.Option.{option_map_or}
-use Rattle.std.proofs.lemmas.Bool.{cases_Bool, both_ways}
+use Rattle.std.proofs.lemmas.Bool.{cases_Bool}
 use Rattle.arrayvec.specs.ArrayVec.{ArrayVec}
 use Rattle.epic_num.specs.declared.name.HostId.{HostId}
 use Rattle.epic_num.specs.declared.passed.Place.TheVariants.{Router}
@@ -15,7 +15,6 @@ use Rattle.epic_ends.specs.Admitting.{next_ts}
 use Rattle.epic_ledger.specs.History.{History, Emission}
 use Rattle.epic_ledger.specs.Facts.{Facts, Sent, as_send, facts_of, sends_in, packet_at}
 use Rattle.epic_ledger.specs.Lawful.{IsLawful}
-use Rattle.epic_ledger.specs.OneMore.{with_emission}
 use Rattle.epic_ledger.specs.declared.event.Event.TheVariants as event
 use Rattle.epic_audit.proofs.Growth.{emissions_add_nothing}
 use Rattle.epic_audit.proofs.Lists.{one_more}

@@ -1,5 +1,5 @@
 -- What a world knows of a packet that its source doesn't refuse.
-use Rattle.std.proofs.Common.{◌≡◌, ℕ, zero, suc, ◌+◌, ◌-◌, ◌*◌, ◌<◌, ◌≤◌, ◌^◌, max, Bool, true, false, not, List, [], ◌∷◌, ◌++◌, length, get_or, take, map, Option, None, Some, Ok, Err, refl, ap, sym, subst, ◌∙◌, ⊎_elim, arith, mul-le-mul_right}
+use Rattle.std.proofs.Common.{◌≡◌, ℕ, suc, ◌+◌, ◌-◌, ◌*◌, ◌<◌, ◌≤◌, ◌^◌, max, Bool, true, false, not, List, [], ◌∷◌, ◌++◌, length, get_or, map, Option, None, Some, Ok, Err, refl, ap, sym, subst, ◌∙◌, ⊎_elim, arith, mul-le-mul_right}
 use Rattle.std.proofs.Math.Nat.{mul-le-mul_left}
 use Rattle.std.specs.Prelude.{◌==◌, ◌&&◌, nat_lt, if◌then◌else◌, Result, IsTrue, IfSome, slice_get, option_map}
 use Rattle.std.specs.List.{All}
@@ -13,7 +13,6 @@ use Rattle.epic_num.specs.declared.answer.Answer.TheVariants.{Sent as SentAnswer
 use Rattle.epic_num.specs.declared.answer.Refusal.TheVariants.{Full}
 use Rattle.epic_num.specs.declared.hop.HopName.{HopName}
 use Rattle.epic_num.specs.declared.hop.Level.{Level}
-use Rattle.epic_num.specs.declared.moment.TheConstants.{MAX_MOMENT}
 use Rattle.epic_num.specs.declared.name.HostId.{HostId}
 use Rattle.epic_num.specs.declared.passed.Place.TheVariants.{Router}
 use Rattle.epic_num.specs.declared.segment.Leg.{Leg}
@@ -31,7 +30,7 @@ use Rattle.epic_num.specs.Tables.{first_row}
 use Rattle.epic_num.proofs.SameLaws.{same_as-Decides}
 use Rattle.epic_num.proofs.TableLaws.{all_passed, unless_ok}
 use Rattle.epic_layout.specs.declared.wire.TheConstants.{MAX_PAYLOAD}
-use Rattle.epic_layout.specs.Contents.{Contents, IsPacket, header_len, header_len_of, dest_len, hop_count, unfilled}
+use Rattle.epic_layout.specs.Contents.{Contents, IsPacket, header_len, header_len_of, hop_count, unfilled}
 use Rattle.epic_layout.specs.Layout.{parse}
 use Rattle.epic_layout.specs.PathRoutes.{head_of, hop_head, route_of}
 use Rattle.epic_layout.specs.Spelling.{spelling}
@@ -48,14 +47,13 @@ use Rattle.epic_beacon.specs.Told.{beacons_in}
 use Rattle.epic_beacon.proofs.Formed.{segment_is}
 use Rattle.epic_beacon.proofs.Issued.{issue_there}
 use Rattle.epic_beacon.proofs.Told.{issues_in_beacons}
-use Rattle.epic_path.specs.Joins.{joined}
 use Rattle.epic_path.proofs.WalkLaws.{joins_are_lawful}
 use Rattle.epic_ends.specs.Admitting.{next_ts, end_rows, expiry_rows, key_rows, key_owners, send_rows, admitted}
 use Rattle.epic_ends.specs.Sending.{no_hop, packet_over, sent_packet}
 use Rattle.epic_ends.specs.SentPackets.{EachHop}
 use Rattle.epic_ends.proofs.Legs.{length_count}
 use Rattle.epic_ends.proofs.Made.{each_hop}
-use Rattle.epic_ledger.specs.History.{History, Emission, emitted}
+use Rattle.epic_ledger.specs.History.{History, emitted}
 use Rattle.epic_ledger.specs.Facts.{Sent, facts_of, issues_in, sends_in}
 use Rattle.epic_ledger.specs.Lawful.{FitsSend, IsLast}
 use Rattle.epic_ledger.specs.OneMore.{with_emission, with_event}
@@ -66,7 +64,7 @@ use Rattle.epic_model.specs.Keeping.{Inv, IsSendable, latest_sent, sent_at}
 use Rattle.epic_model.specs.Passing.{most_emitted}
 use Rattle.epic_model.specs.State.{State}
 use Rattle.epic_model.specs.Steps.{before_segments, segments_of, ts_next, has_keys, admission, emitted_by}
-use Rattle.epic_model.specs.Traces.{Stepped, refused}
+use Rattle.epic_model.specs.Traces.{refused}
 use Rattle.epic_model.specs.World.{most_steps, IsWorld}
 use Rattle.epic_model.proofs.InvSent.{inv_sends, next_is_unsent, sends_read}
 use Rattle.epic_model.proofs.SentKept.{chain_of}

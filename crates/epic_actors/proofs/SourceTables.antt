@@ -1,5 +1,5 @@
 -- A source that is put among the others, and what holds of all of them then.
-use Rattle.std.proofs.Common.{◌≡◌, ◌≢◌, ℕ, ◌==◌, Bool, true, false, cond, nat_cmp, is_eq, List, refl, ap, sym, subst, ◌∙◌, ⊎_elim, arith}
+use Rattle.std.proofs.Common.{◌≡◌, ◌≢◌, ℕ, ◌==◌, false, cond, nat_cmp, is_eq, List, refl, ap, sym, subst, ◌∙◌, ⊎_elim, arith}
 use Rattle.std.specs.Prelude.{Option, None, Some, IsSome, is_some, ◌&&◌, Result, Ok, Err, IfOk, IfErr}
 use Rattle.std.specs.BTreeMap.{BTreeMap, Updates, get_by}
 use Rattle.std.specs.declared.cmp.Ordering.{Ordering}

@@ -1,5 +1,5 @@
 //! The hosts that send packets.
-ghost use Rattle.std.specs.Prelude.{◌≡◌, ℕ, ◌<◌, ◌^◌, None, All, IfErr, IfOk, IfSome, IsOk, IsSome, IsTrue, OnOk, Ok};
+ghost use Rattle.std.specs.Prelude.{◌≡◌, ℕ, ◌<◌, ◌^◌, None, All, IfErr, IfOk, IfSome, IsOk, IsSome, IsTrue, OnOk, Ok, Err};
 ghost use Rattle.epic_num.specs.Levels.{first_byte as spec_first_byte, is_first_byte};
 ghost use Rattle.epic_num.specs.Paths.{path_hops};
 ghost use Rattle.epic_layout.specs.Layout.{fault};
@@ -120,6 +120,8 @@ impl Sources {
         ensures packet { IfOk result (λ s. s.bytes ≡ spelling (sent_packet topo.now path.now.legs.items version level src dst s.ts payload.now)) }
         ensures faultless { IfOk result (λ s. fault is_first_byte s.bytes ≡ None) }
         ensures taken { IfOk result (λ s. (h : History) → IsLatest src s.ts ledger.now.history h → SourcesStandFor self.new h) }
+        ensures refused { (steps : ℕ) → IfErr (admission topo.now (state_at now steps ledger.now.history) version level src dst payload.now path.now.legs.items) (λ e. result ≡ Err e) }
+        ensures memory { (steps : ℕ) → IfErr result (λ e. IfOk (admission topo.now (state_at now steps ledger.now.history) version level src dst payload.now path.now.legs.items) (λ _. e ≡ SendError.OutOfMemory)) }
         ensures kept { IfErr result (λ _. SourcesStandFor self.new ledger.now.history) }
         ensures made { (d : HostId) → IsSome (source_of self.old d) → IsSome (source_of self.new d) }
     {

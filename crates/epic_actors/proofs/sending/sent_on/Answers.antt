@@ -1,4 +1,4 @@
-use Rattle.std.proofs.Common.{◌≡◌, ℕ, ◌+◌, ◌≤◌, nat_lt, true, false, List, [], ◌∷◌, ◌++◌, length, refl, sym, subst, ap, ◌∙◌, arith}
+use Rattle.std.proofs.Common.{◌≡◌, ℕ, ◌+◌, ◌≤◌, nat_lt, false, List, [], ◌∷◌, ◌++◌, length, sym, subst, ap, ◌∙◌, arith}
 use Rattle.epic_num.specs.declared.answer.Answer.TheVariants.{Sent as SentAnswer}
 use Rattle.epic_num.specs.declared.passed.Place.TheVariants.{Router}
 use Rattle.epic_layout.specs.Spelling.{spelling}

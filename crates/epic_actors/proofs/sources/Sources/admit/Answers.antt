@@ -1,5 +1,5 @@
-use Rattle.std.proofs.Common.{◌≡◌, ◌<◌, ◌^◌, true, false, refl, sym, subst, ap, ◌∙◌}
-use Rattle.std.specs.Prelude.{None, Some, IsSome, IfSome, is_some}
+use Rattle.std.proofs.Common.{◌≡◌, ◌<◌, ◌^◌, true, false, sym, subst, ap, ◌∙◌}
+use Rattle.std.specs.Prelude.{None, Some, IfSome, is_some}
 use Rattle.epic_ends.specs.Sources.{Sender}
 use Rattle.epic_ledger.specs.Facts.{sends_in}
 use Rattle.epic_model.specs.Keeping.{latest_sent}

@@ -1,7 +1,7 @@
-use Rattle.std.proofs.Common.{◌≡◌, true, false, refl, sym, subst, ap, ◌∙◌}
-use Rattle.std.specs.Prelude.{None, Some, IsSome, is_some}
+use Rattle.std.proofs.Common.{sym, subst, ap, ◌∙◌}
+use Rattle.std.specs.Prelude.{IsSome, is_some}
 use Rattle.epic_actors.specs.Sources.{SourcesStandFor, source_of}
-use Rattle.epic_actors.proofs.SourceTables.{table, found, put_here, none_lost, new_stands, none_of}
+use Rattle.epic_actors.proofs.SourceTables.{found, put_here, none_lost, new_stands, none_of}
 use Rattle.epic_actors.proofs.sources.Sources.ready.Goals as goal
 
 pub returns-then-contains_key-clause-made : goal.returns-then-contains_key-clause-made

@@ -1,6 +1,7 @@
-use Rattle.std.proofs.Common.{◌≡◌, ◌<◌, ◌^◌, true, false, refl, sym, subst, ap, ◌∙◌}
-use Rattle.std.specs.Prelude.{None, Some, IsSome, IfSome, is_some}
+use Rattle.std.proofs.Common.{◌≡◌, ◌<◌, ◌^◌, true, false, sym, subst, ap, ◌∙◌}
+use Rattle.std.specs.Prelude.{None, Some, IsSome, IfSome, is_some, Err, IfErr, IfOk}
 use Rattle.std.specs.BTreeMap.{Updates}
+use Rattle.epic_num.specs.declared.send_error.SendError.TheVariants.{OutOfMemory}
 use Rattle.epic_ends.specs.Sources.{Sender}
 use Rattle.epic_ends.specs.Sending.{sent_packet}
 use Rattle.epic_layout.specs.Spelling.{spelling}
@@ -71,3 +72,13 @@ returns-clause-made c =
     let x = c.send.new.self in
     let updates : Updates host_cmp m (c.get_mut.follows.lender x) (c.args.src.asn.0, c.args.src.host) (Some x) = (c.get_mut.follows.holds x).3 (ap is_some (sym c.in-Some.ensures.value)) in
     λ d h. none_lost m (c.get_mut.follows.lender x) c.args.src x updates d (subst (λ v. IsSome (source_of v d)) (sym c.self.view_is) h)
+
+pub returns-clause-refused : goal.returns-clause-refused
+returns-clause-refused c =
+    let d = (goal.at.returns-clause-refused c).In-Some in
+    λ steps. subst (λ a. IfErr a (λ e. c.send.result ≡ Err e)) (answer_is _ _ _ _ _ _ _ _ _ _ _ (own d) c.requires.keys steps) c.send.ensures.refused
+
+pub returns-clause-memory : goal.returns-clause-memory
+returns-clause-memory c =
+    let d = (goal.at.returns-clause-memory c).In-Some in
+    λ steps. subst (λ a. IfErr c.send.result (λ e. IfOk a (λ _. e ≡ OutOfMemory))) (answer_is _ _ _ _ _ _ _ _ _ _ _ (own d) c.requires.keys steps) c.send.ensures.memory
