@@ -50,7 +50,7 @@ fn ledger(rt: &impl Abort, alloc: Global) -> Result<Ledger, Fail>
 }
 
 #[test]
-fn a_hop_is_forged_opened_or_proved(rt: HostRuntime) -> Result<(), Fail> {
+fn a_hop_is_forged_or_opened(rt: HostRuntime) -> Result<(), Fail> {
     let topo = topology(&rt, rt.alloc())?;
     assert!(rt; topo.has(LEAF));
     let Ok(packet) = PacketRef::look(&UPWARDS) else {
@@ -81,6 +81,22 @@ fn a_hop_is_forged_opened_or_proved(rt: HostRuntime) -> Result<(), Fail> {
     let _one = opened.events();
     let verdict = verdict::lines(&opened, &topo, &name, &packet, 0);
     assert_eq!(rt; verdict, Verdict::Opened { step: 3 });
+    Ok(())
+}
+
+#[test]
+fn an_issued_hop_is_proved(rt: HostRuntime) -> Result<(), Fail> {
+    let topo = topology(&rt, rt.alloc())?;
+    assert!(rt; topo.has(LEAF));
+    let Ok(packet) = PacketRef::look(&UPWARDS) else {
+        return Err("a packet".into());
+    };
+    assert!(rt; packet.shape().hops > 0);
+    let name = HopName {
+        asn: LEAF,
+        generation: 0,
+        body: packet.body(0),
+    };
     let mut issued = ledger(&rt, rt.alloc())?;
     issued.push(Event::Issue {
         step: 4,
