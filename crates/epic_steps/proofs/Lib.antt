@@ -1,0 +1,10 @@
+mod Answering
+mod Carried
+mod CarryGrows
+mod Gone
+mod Grown
+mod Issued
+mod Refined
+mod Segmented
+mod Sent
+mod Way

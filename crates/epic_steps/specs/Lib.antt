@@ -1,0 +1,5 @@
+pub mod Passing
+pub mod Refining
+pub mod Standing
+pub mod Stepped
+pub mod Way
