@@ -1,5 +1,5 @@
 //! Packets as their source writes them first: with room for the fields, which are set where they lie.
-ghost use Rattle.std.specs.Prelude.{◌≡◌, ◌<◌, ◌≤◌, ◌^◌, ◌++◌, true, None, IfOk, OnOk, length, replicate};
+ghost use Rattle.std.specs.Prelude.{◌≡◌, ◌<◌, ◌≤◌, ◌^◌, ◌++◌, IsTrue, None, IfOk, OnOk, length, replicate};
 ghost use Rattle.std.specs.List.{All, flat_map};
 ghost use Rattle.epic_num.specs.Levels.{is_first_byte};
 ghost use Rattle.epic_layout.specs.Contents.{IsHop, IsPacket, AreSegments, unfilled};
@@ -49,7 +49,7 @@ pub fn unfilled_packet(
     hops: &[HopHead],
     payload: &[u8],
 ) -> Result<Vec<u8>, OutOfMemory>
-    requires exists { is_first_byte first ≡ true }
+    requires exists { IsTrue (is_first_byte first) }
     requires segments { AreSegments segments.now }
     requires hops { hops_of segments.now ≡ length hops.now }
     requires payload { length payload.now ≤ MAX_PAYLOAD }

@@ -9,12 +9,12 @@ use Rattle.epic_num.specs.Chains.{Issue, issue_at}
 use Rattle.epic_num.specs.Same.{same_name}
 use Rattle.epic_num.specs.declared.hop.HopName.{HopName}
 use Rattle.epic_ledger.specs.Facts.{issues_in, as_issue}
-use Rattle.epic_num.specs.Chains.{ancestor}
+use Rattle.epic_num.specs.Chains.{ancestor, no_name}
 use Rattle.epic_ledger.specs.Queries.{issue_of}
 use Rattle.epic_ledger.specs.Rows.{IsLog, issue_in}
 use Rattle.epic_tree.specs.Index.{IsTagged}
 use Rattle.epic_tree.specs.Sides.{Ordered}
-use Rattle.epic_ledger.specs.Ranks.{name_cmp, name_tag, names_of, no_name}
+use Rattle.epic_ledger.specs.Ranks.{name_cmp, name_tag, names_of}
 use Rattle.epic_ledger.specs.declared.event.Event.{Event}
 use Rattle.epic_ledger.specs.declared.log.Issued.{Issued}
 use Rattle.epic_ledger.specs.declared.limits.TheConstants.{MAX_EVENTS}

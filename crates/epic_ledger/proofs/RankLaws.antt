@@ -15,9 +15,10 @@ use Rattle.epic_num.specs.declared.name.HostId.{HostId}
 use Rattle.epic_num.specs.declared.key_name.Holder.{Holder}
 use Rattle.epic_num.specs.declared.key_name.Holder.TheVariants.{As, Host}
 use Rattle.epic_num.proofs.SameLaws.{same_name-Decides, same_holder-Decides}
+use Rattle.epic_num.specs.Chains.{no_name}
 use Rattle.epic_tree.specs.Index.{IsTagOf}
 use Rattle.epic_ledger.proofs.Logging.{position-map}
-use Rattle.epic_ledger.specs.Ranks.{as_cmp, host_cmp, holder_row, holder_cmp, holder_tag, body_cmp, name_cmp, name_tag, no_name, names_of}
+use Rattle.epic_ledger.specs.Ranks.{as_cmp, host_cmp, holder_row, holder_cmp, holder_tag, body_cmp, name_cmp, name_tag, names_of}
 use Rattle.epic_ledger.specs.declared.log.Issued.{Issued}
 
 pub as_total : IsTotalOrder as_cmp

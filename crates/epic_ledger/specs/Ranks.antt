@@ -55,9 +55,5 @@ name_tag x = number w32 x.body.link 0
 unfoldable pub no_host : HostId
 no_host = record { asn = record { 0 = 0 }; host = 0 }
 
--- no hop's name
-unfoldable pub no_name : HopName
-no_name = record { asn = record { 0 = 0 }; generation = 0; body = record { pos = 0; exp = 0; ts_path = 0; inn = 0; out = 0; link = [] } }
-
 abbrev pub names_of : List Issued → List HopName
 names_of issues = map (λ (i : Issued). i.name) issues

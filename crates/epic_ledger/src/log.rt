@@ -3,9 +3,9 @@ ghost use Rattle.std.specs.Prelude.{◌≡◌, ◌+◌, ◌^◌, ◌<◌, ◌≤
 ghost use Rattle.std.specs.Option.{option_map_or};
 ghost use Rattle.epic_num.specs.Chains as chains;
 ghost use Rattle.epic_num.specs.Same.{same_name};
-ghost use Rattle.epic_num.specs.Chains.{ancestor};
+ghost use Rattle.epic_num.specs.Chains.{ancestor, no_name};
 ghost use Rattle.epic_tree.specs.Index.{IsTagged};
-ghost use Rattle.epic_ledger.specs.Ranks.{name_cmp, name_tag, names_of, no_name};
+ghost use Rattle.epic_ledger.specs.Ranks.{name_cmp, name_tag, names_of};
 ghost use Rattle.epic_ledger.specs.Facts.{as_issue, issues_in};
 ghost use Rattle.epic_ledger.specs.Queries as queries;
 ghost use Rattle.epic_ledger.specs.Rows.{issue_in};

@@ -2,9 +2,10 @@
 ghost use Rattle.std.specs.Prelude.{◌≡◌, ◌<◌, length, position, IfSome};
 ghost use Rattle.std.specs.Int.{w32};
 ghost use Rattle.epic_layout.specs.Pieces.{number};
+ghost use Rattle.epic_num.specs.Chains.{no_name};
 ghost use Rattle.epic_num.specs.Same.{same_name};
 ghost use Rattle.epic_tree.specs.Index.{IsTagged};
-ghost use Rattle.epic_ledger.specs.Ranks.{name_cmp, name_tag, names_of, no_name};
+ghost use Rattle.epic_ledger.specs.Ranks.{name_cmp, name_tag, names_of};
 
 use crate::log::Issued;
 use crate::ranks::name_order;
@@ -30,7 +31,7 @@ pub struct Named<'a> {
 impl Aim for Named<'_> {
     ghost use Rattle.std.specs.Prelude.{◌<◌, length};
     ghost use Rattle.epic_tree.specs.Index.{key_side};
-    ghost use Rattle.epic_ledger.specs.Ranks.{name_cmp, name_tag, names_of, no_name};
+    ghost use Rattle.epic_ledger.specs.Ranks.{name_cmp, name_tag, names_of};
 
     ghost knows = { λ s p. p < length s.issues.now };
 

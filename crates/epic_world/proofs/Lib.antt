@@ -1,9 +1,10 @@
 mod Answering
+mod Carried
+mod CarryGrows
+mod Gone
+mod Grown
 mod Issued
-mod Judged
-mod Passages
 mod Refined
 mod Segmented
-mod Soundness
-mod StepLaws
-mod Turned
+mod Sent
+mod Way

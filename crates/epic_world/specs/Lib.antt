@@ -1,8 +1,7 @@
-pub mod Next
 pub mod Passing
 pub mod Refining
 pub mod Run
 pub mod Sound
-pub mod State
+pub mod Standing
 pub mod Stepped
-pub mod Turning
+pub mod Way

@@ -3,18 +3,22 @@ use Rattle.std.specs.Prelude.{List, [], ◌∷◌}
 use Rattle.epic_num.specs.declared.answer.Answer.{Answer}
 use Rattle.epic_num.specs.declared.command.Command.{Command}
 use Rattle.epic_topo.specs.Network.{Network}
-use Rattle.epic_world.specs.Next.{next}
-use Rattle.epic_world.specs.State.{State, start}
+use Rattle.epic_model.specs.State.{State, start}
+use Rattle.epic_model.specs.Steps.{next}
+use Rattle.epic_model.specs.Traces.{Passage}
 
--- a step that was done
+-- a step that was done: its command, the states around it, what it answered, and its passages
 pub record Done : Type 0 where
   pub command : Command
-  pub answer : Answer
   pub before : State
+  pub answer : Answer
+  pub passages : List Passage
   pub after : State
 
 unfoldable pub done_by : Network → State → Command → Done
-done_by t s c = record { command = c; answer = (next t s c).answer; before = s; after = (next t s c).state }
+done_by t s c =
+    let n = next t s c in
+    record { command = c; before = s; answer = n.answer; passages = n.passages; after = n.state }
 
 -- the steps of the commands in order
 unfoldable pub run_from : Network → State → List Command → List Done

@@ -1,30 +1,30 @@
--- How steps end.
-use Rattle.std.specs.Prelude.{◌≡◌, ◌+◌, Result, Ok, Err}
+-- How calls that are to make a step end.
+use Rattle.std.specs.Prelude.{◌≡◌, ◌≤◌, true, Result, Ok, Err}
 use Rattle.epic_num.specs.declared.answer.Answer.{Answer}
-use Rattle.epic_num.specs.declared.answer.Answer.TheVariants.{Refused}
-use Rattle.epic_num.specs.declared.answer.Refusal.{Refusal}
+use Rattle.epic_num.specs.declared.command.Command.{Command}
+use Rattle.epic_num.specs.declared.command.Command.TheVariants as command
 use Rattle.epic_num.specs.declared.memory.OutOfMemory.{OutOfMemory}
-use Rattle.epic_ledger.specs.declared.event.Event.{Event}
-use Rattle.epic_ledger.specs.OneMore.{with_event}
-use Rattle.epic_world.specs.State.{State}
+use Rattle.epic_num.specs.declared.moment.TheConstants.{MAX_MOMENT}
+use Rattle.epic_num.specs.Levels.{first_byte, is_first_byte}
+use Rattle.epic_model.specs.State.{State}
+use Rattle.epic_model.specs.Traces.{Stepped}
 
--- an answer, and the state after it
-pub record Stepped : Type 0 where
-  pub answer : Answer
-  pub state : State
-
--- nothing happened but that there was a step
-abbrev pub answered : State → Answer → Stepped
-answered s answer = record { answer = answer; state = record s { steps = s.steps + 1 } }
-
-abbrev pub refused : State → Refusal → Stepped
-refused s refusal = answered s (Refused refusal)
-
--- one thing happened
-abbrev pub recorded : State → Event → Answer → Stepped
-recorded s e answer = record { answer = answer; state = record s { steps = s.steps + 1; history = with_event s.history e } }
-
--- a call that is to make a step: its answer and the state after it are those, or memory was wanting and nothing changed
+-- the answer of the call and the state after it are those of the step, or it was out of memory and nothing has changed
 abbrev pub Steps : Stepped → Result Answer OutOfMemory → State → State → Type 0
 Steps n (Ok answer) old new = (answer ≡ n.answer) × (new ≡ n.state)
 Steps n (Err e) old new = new ≡ old
+
+-- a command whose moment fits, and whose packet is of a level and version that exist
+unfoldable pub IsPossible : Command → Type 0
+IsPossible (command.At moment) = moment ≤ MAX_MOMENT
+IsPossible (command.Originate a out exp) = Unit {0}
+IsPossible (command.Extend parent out exp) = Unit {0}
+IsPossible (command.Fetch source owner epoch) = Unit {0}
+IsPossible (command.Paths from to) = Unit {0}
+IsPossible (command.Send version level src dst segments payload) = is_first_byte (first_byte version level) ≡ true
+IsPossible (command.Turn a iface bytes) = Unit {0}
+IsPossible (command.Arrive host bytes) = Unit {0}
+IsPossible (command.Pass emission) = Unit {0}
+IsPossible (command.Carry emission) = Unit {0}
+IsPossible (command.Reveal holder) = Unit {0}
+IsPossible (command.Roll a) = Unit {0}

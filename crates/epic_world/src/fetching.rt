@@ -2,17 +2,17 @@
 ghost use Rattle.std.specs.Prelude.{◌≡◌, ◌-◌, ◌^◌, ◌<◌};
 
 use crate::World;
-use crate::laws::keeps;
+use crate::laws::goes_on;
 use epic_keys::Fetched;
 use epic_ledger::Event;
 use epic_num::{Answer, AsId, OutOfMemory, Refusal};
 
 impl World {
     ghost use Rattle.epic_world.specs.Stepped.{Steps};
-    ghost use Rattle.epic_world.specs.Next.{next_fetch};
+    ghost use Rattle.epic_model.specs.Steps.{next_fetch};
 
     // The AS `source` gets the keys of `owner` for an epoch.
-    #[tactic(auto, unfolding(crate::specs::Next::next_fetch))]
+    #[tactic(auto, unfolding(epic_model::specs::Steps::next_fetch))]
     pub(crate) fn fetch(
         &mut self,
         source: AsId,
@@ -32,7 +32,7 @@ impl World {
         self.ledger.reserve(1, 0, 0)?;
         match self.keys.fetch(&self.topo, source, owner, epoch) {
             Ok(Fetched::New) => {
-                keeps(&self.ledger);
+                goes_on(&self.topo);
                 self.ledger.push(Event::Fetch {
                     step: self.steps + 1,
                     source,

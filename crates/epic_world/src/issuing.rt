@@ -8,7 +8,7 @@ ghost use Rattle.epic_ledger.specs.declared.event.Event.TheVariants as event;
 ghost use Rattle.epic_ledger.specs.OneMore.{with_event};
 
 use crate::World;
-use crate::laws::keeps;
+use crate::laws::goes_on;
 use epic_beacon::Beacons;
 use epic_ledger::{Event, Ledger};
 use epic_num::{Answer, AsId, BeaconError, OutOfMemory, Refusal};
@@ -37,7 +37,7 @@ impl World {
     ghost use Rattle.epic_num.specs.declared.beacon_error.BeaconError.{BeaconError};
     ghost use Rattle.epic_beacon.specs.declared.beacon.Beacon.{Beacon};
     ghost use Rattle.epic_world.specs.Stepped.{Steps};
-    ghost use Rattle.epic_world.specs.Next.{issued, next_extend, next_originate};
+    ghost use Rattle.epic_model.specs.Steps.{issued, next_extend, next_originate};
 
     // A hop isn't issued. Where memory was wanting, this is no step.
     fn not_issued(&mut self, error: BeaconError) -> Result<Answer, OutOfMemory>
@@ -52,7 +52,7 @@ impl World {
     }
 
     // The AS `a` begins a chain at its interface `out`, with the expiry byte `exp`.
-    #[tactic(auto, unfolding(crate::specs::Next::next_originate))]
+    #[tactic(auto, unfolding(epic_model::specs::Steps::next_originate))]
     pub(crate) fn originate(&mut self, a: AsId, out: u16, exp: u8) -> Result<Answer, OutOfMemory>
         requires { self.old.state.steps < 2 ^ 30 - 1 }
         ensures step { Steps (next_originate self.old.network self.old.state a out exp) result self.old.state self.new.state }
@@ -64,7 +64,7 @@ impl World {
         self.ledger.reserve(1, 0, 0)?;
         match self.beacons.originate(&self.topo, a, out, exp, self.moment) {
             Ok(no) => {
-                keeps(&self.ledger);
+                goes_on(&self.topo);
                 record_issue(&self.beacons, &mut self.ledger, self.steps + 1, no);
                 self.steps += 1;
                 Ok(Answer::Issued { no })
@@ -74,7 +74,7 @@ impl World {
     }
 
     // The AS behind the issue `parent` goes on from it, with the egress `out` and the expiry byte `exp`.
-    #[tactic(auto, unfolding(crate::specs::Next::next_extend))]
+    #[tactic(auto, unfolding(epic_model::specs::Steps::next_extend))]
     pub(crate) fn extend(&mut self, parent: u32, out: u16, exp: u8) -> Result<Answer, OutOfMemory>
         requires { self.old.state.steps < 2 ^ 30 - 1 }
         ensures step { Steps (next_extend self.old.network self.old.state parent out exp) result self.old.state self.new.state }
@@ -86,7 +86,7 @@ impl World {
             .extend(&self.topo, parent, out, exp, self.moment)
         {
             Ok(no) => {
-                keeps(&self.ledger);
+                goes_on(&self.topo);
                 record_issue(&self.beacons, &mut self.ledger, self.steps + 1, no);
                 self.steps += 1;
                 Ok(Answer::Issued { no })

@@ -33,10 +33,10 @@ fn ended_segments(alloc: Global, beacons: &Beacons) -> Result<Vec<Segment>, Allo
 
 impl World {
     ghost use Rattle.epic_world.specs.Stepped.{Steps};
-    ghost use Rattle.epic_world.specs.Next.{next_paths};
+    ghost use Rattle.epic_model.specs.Steps.{next_paths};
 
     // Every path between two ASes.
-    #[tactic(auto, unfolding(crate::specs::Next::next_paths))]
+    #[tactic(auto, unfolding(epic_model::specs::Steps::next_paths))]
     pub(crate) fn paths(
         &mut self,
         alloc: Global,

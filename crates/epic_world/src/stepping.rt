@@ -1,12 +1,15 @@
 //! Steps that change nothing but how many there were, and the moment.
-ghost use Rattle.std.specs.Prelude.{◌≡◌, ◌+◌, ◌-◌, ◌^◌, ◌<◌, ◌≤◌, Ok};
+ghost use Rattle.std.specs.Prelude.{◌≡◌, ◌-◌, ◌^◌, ◌<◌, ◌≤◌, Ok};
 
 use crate::World;
+use epic_actors::actors_stand;
+use epic_model::inv_is_kept;
 use epic_num::{Answer, MAX_MOMENT, Refusal};
 
 impl World {
-    ghost use Rattle.epic_world.specs.Stepped.{Steps, answered, refused};
-    ghost use Rattle.epic_world.specs.Next.{next_at};
+    ghost use Rattle.epic_model.specs.Steps.{next_at};
+    ghost use Rattle.epic_model.specs.Traces.{answered, refused};
+    ghost use Rattle.epic_world.specs.Stepped.{Steps};
 
     // One more step, which this answers.
     pub(crate) fn answered(&mut self, answer: Answer) -> Answer
@@ -14,6 +17,7 @@ impl World {
         ensures step { Steps (answered self.old.state answer) (Ok result) self.old.state self.new.state }
         ensures network { self.new.network ≡ self.old.network }
     {
+        inv_is_kept();
         self.steps += 1;
         answer
     }
@@ -28,16 +32,16 @@ impl World {
     }
 
     // The present moment becomes this one, where it is later.
-    #[tactic(auto, unfolding(crate::specs::Next::next_at))]
+    #[tactic(auto, unfolding(epic_model::specs::Steps::next_at))]
     pub(crate) fn at(&mut self, moment: u64) -> Answer
         requires few { self.old.state.steps < 2 ^ 30 - 1 }
         requires moment { moment ≤ MAX_MOMENT }
         ensures step { Steps (next_at self.old.state moment) (Ok result) self.old.state self.new.state }
         ensures network { self.new.network ≡ self.old.network }
     {
-        if self.moment < moment {
-            self.moment = moment;
-        }
+        inv_is_kept();
+        actors_stand();
+        self.moment = self.moment.max(moment);
         self.steps += 1;
         Answer::Moment
     }

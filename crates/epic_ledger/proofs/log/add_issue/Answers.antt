@@ -1,6 +1,7 @@
+use Rattle.epic_num.specs.Chains.{no_name}
 use Rattle.epic_tree.proofs.Indexing.{tagged_cut, tagged_push}
 use Rattle.std.proofs.lemmas.List.{map-append}
-use Rattle.epic_ledger.specs.Ranks.{name_cmp, name_tag, no_name}
+use Rattle.epic_ledger.specs.Ranks.{name_cmp, name_tag}
 use Rattle.epic_ledger.specs.declared.log.Issued.{Issued}
 use Rattle.epic_ledger.proofs.RankLaws.{name_total}
 use Rattle.epic_ledger.proofs.log.add_issue.Goals as goal

@@ -1,6 +1,7 @@
 use Rattle.std.proofs.Common.{◌∙◌}
+use Rattle.epic_num.specs.Chains.{no_name}
 use Rattle.epic_tree.proofs.Indexing.{tagged_cut, tagged_find}
-use Rattle.epic_ledger.specs.Ranks.{name_cmp, name_tag, no_name}
+use Rattle.epic_ledger.specs.Ranks.{name_cmp, name_tag}
 use Rattle.epic_ledger.proofs.RankLaws.{name_tagged, names_position, position_within}
 use Rattle.epic_ledger.proofs.names.place_of.Goals as goal
 

@@ -1,13 +1,13 @@
 use Rattle.std.proofs.Common.{subst}
-use Rattle.epic_world.specs.Run.{done_by}
-use Rattle.epic_world.specs.Sound.{IsSound, VerdictsHold}
-use Rattle.epic_world.specs.State.{Standing, State}
+use Rattle.epic_model.specs.Judged.{VerdictsHold}
+use Rattle.epic_model.specs.Steps.{next}
+use Rattle.epic_world.specs.Refining.{state_of}
+use Rattle.epic_world.specs.Standing.{Standing}
 use Rattle.epic_world.proofs.world.World.judges.Goals as goal
 
 pub returns : goal.returns
 returns c =
     let w = c.self.inside in
-    let s : State = record { moment = w.moment; steps = w.steps; history = w.ledger.history } in
-    let h : IsSound w.topo s = record { lawful = c.keeps.ensures.lawful; kept = c.self.invariant.kept; last = c.self.invariant.last } in
-    subst (λ (v : Standing). VerdictsHold v.network (done_by v.network v.state c.args.command.now)) c.self.view_is
-    (c.runs_are_sound.ensures.verdicts w.topo s c.args.command.now c.carries_bytes.ensures h)
+    subst (λ (v : Standing). let n = next v.network v.state c.args.command.now in VerdictsHold v.network n.answer n.passages) c.self.view_is
+    (c.verdicts_are_right.ensures w.topo (state_of w.moment w.steps w.ledger.history) c.args.command.now
+    c.is_topology.ensures c.fits.ensures c.self.invariant.world)

@@ -4,14 +4,15 @@ use Rattle.epic_num.specs.declared.answer.Answer.TheVariants.{Paths}
 use Rattle.epic_num.specs.declared.answer.Refusal.TheVariants.{TooManyPaths}
 use Rattle.epic_topo.specs.Network.{has}
 use Rattle.epic_ledger.specs.Facts.{issues_in}
-use Rattle.epic_keys.specs.Fetches.{is_fetched}
 use Rattle.epic_beacon.specs.Segments.{segments}
 use Rattle.epic_beacon.specs.Told.{beacons_in}
 use Rattle.epic_path.specs.Routes.{all_lawful}
 use Rattle.epic_beacon.specs.Store.{store_of}
-use Rattle.epic_world.specs.Next.{next_paths}
-use Rattle.epic_world.specs.State.{Standing, State}
-use Rattle.epic_world.specs.Stepped.{Steps, answered, refused}
+use Rattle.epic_model.specs.Steps.{next_paths}
+use Rattle.epic_world.specs.Standing.{Standing}
+use Rattle.epic_model.specs.State.{State}
+use Rattle.epic_world.specs.Stepped.{Steps}
+use Rattle.epic_model.specs.Traces.{answered, refused}
 use Rattle.epic_world.proofs.Answering.{segments_are, known_paths, few_found, many_found}
 use Rattle.epic_world.proofs.world.World.paths.Goals as goal
 
@@ -21,7 +22,7 @@ returns-in-Ok-all_paths-clause-step c =
     let s : State = record { moment = w.moment; steps = w.steps; history = w.ledger.history } in
     let from : has w.topo c.args.from ≡ true = sym c.has.ensures ∙ c.if-not-has.false in
     let to : has w.topo c.args.to ≡ true = sym c.has-2.ensures ∙ c.if-not-has-2.false in
-    let same = c.in-Ok.ensures.value ∙ segments_are w.topo (store_of w.beacons) (is_fetched w.keys) w.moment w.steps w.ledger.history c.self.invariant in
+    let same = c.in-Ok.ensures.value ∙ segments_are w.topo (store_of w.beacons) w.keys w.routers w.hosts w.sources w.moment w.steps w.ledger.history c.self.invariant in
     let all = ap (λ ss. all_lawful ss c.args.from c.args.to) (c.as_slice.ensures.value ∙ same) in
     let paths = all_lawful (segments (beacons_in w.topo (issues_in w.ledger.history.events))) c.args.from c.args.to in
     let few = subst (λ ps. length ps ≤ 4096) all c.in-Ok-all_paths.ensures.fits in
@@ -39,7 +40,7 @@ returns-in-Err-TooMany-clause-step c =
     let s : State = record { moment = w.moment; steps = w.steps; history = w.ledger.history } in
     let from : has w.topo c.args.from ≡ true = sym c.has.ensures ∙ c.if-not-has.false in
     let to : has w.topo c.args.to ≡ true = sym c.has-2.ensures ∙ c.if-not-has-2.false in
-    let same = c.in-Ok.ensures.value ∙ segments_are w.topo (store_of w.beacons) (is_fetched w.keys) w.moment w.steps w.ledger.history c.self.invariant in
+    let same = c.in-Ok.ensures.value ∙ segments_are w.topo (store_of w.beacons) w.keys w.routers w.hosts w.sources w.moment w.steps w.ledger.history c.self.invariant in
     let all = ap (λ ss. all_lawful ss c.args.from c.args.to) (c.as_slice.ensures.value ∙ same) in
     let paths = all_lawful (segments (beacons_in w.topo (issues_in w.ledger.history.events))) c.args.from c.args.to in
     let told = c.all_paths.ensures.too_many (c.in-Err-TooMany.is ∙ ap Err c.in-Err-TooMany.field-0-is) in

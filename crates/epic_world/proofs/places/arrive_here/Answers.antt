@@ -1,0 +1,16 @@
+use Rattle.std.proofs.Common.{sym, subst}
+use Rattle.epic_actors.specs.Hosts.{HostsStandFor}
+use Rattle.epic_world.proofs.places.arrive_here.Goals as goal
+
+pub returns-in_err-ready-clause-stand : goal.returns-in_err-ready-clause-stand
+returns-in_err-ready-clause-stand c = c.ready.ensures.stand c.args.now c.args.ledger.now.history c.requires.stand
+
+pub returns-in_err-reserve-clause-stand : goal.returns-in_err-reserve-clause-stand
+returns-in_err-reserve-clause-stand c =
+    subst (HostsStandFor c.args.topo.now c.args.now c.ready.new.self) (sym c.reserve.ensures.history)
+    (c.ready.ensures.stand c.args.now c.args.ledger.now.history c.requires.stand)
+
+pub arrive_at-requires-clause-stand : goal.arrive_at-requires-clause-stand
+arrive_at-requires-clause-stand c =
+    subst (HostsStandFor c.args.topo.now c.args.now c.ready.new.self) (sym c.reserve.ensures.history)
+    (c.ready.ensures.stand c.args.now c.args.ledger.now.history c.requires.stand)
