@@ -1,15 +1,11 @@
-pub mod AcceptedLaws
 pub mod After
 pub mod Answered
-pub mod HopRows
-pub mod OneOn
 pub mod Passed
 pub mod PassedHops
 pub mod Places
 pub mod ReadyLaws
 pub mod Remembered
 pub mod Right
-pub mod Rows
 pub mod Stamps
 pub mod TagLaws
 pub mod Tries

@@ -1,5 +1,4 @@
 pub mod Acceptance
-pub mod Accepted
 pub mod Blocks
 pub mod Candidates
 pub mod Checks
@@ -10,4 +9,3 @@ pub mod Ready
 pub mod Remembering
 pub mod RightTurns
 pub mod Routers
-pub mod Turns

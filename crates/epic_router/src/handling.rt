@@ -1,6 +1,6 @@
 //! The checks of a packet before the window is asked: each function tells the first row that fails of one block of the
 //! router's table, with the index of the hop there.
-ghost use Rattle.std.specs.Prelude.{◌≡◌, ◌+◌, ◌<◌, ◌≤◌, true, None, Some, if◌then◌else◌, IfNone, IfSome, IfOk, IsTrue};
+ghost use Rattle.std.specs.Prelude.{◌≡◌, ◌+◌, ◌<◌, ◌≤◌, None, Some, if◌then◌else◌, IfNone, IfSome, IfOk, IsTrue};
 ghost use Rattle.std.specs.Result.{result_err};
 ghost use Rattle.epic_layout.specs.Contents.{IsPacket, hop_count};
 ghost use Rattle.epic_num.specs.Levels.{is_timed};
@@ -71,7 +71,7 @@ fn valid_refusal(topo: &Topology, packet: &PacketRef<'_>, now: u64, j: u8) -> Op
 #[tactic(auto, unfolding(crate::specs::Checks::fresh_rows, epic_num::specs::Windows::fresh_rows, epic_num::specs::Moments::is_stale, epic_num::specs::Moments::is_early))]
 fn fresh_refusal(topo: &Topology, packet: &PacketRef<'_>, now: u64, j: u8) -> Option<(Check, u8)>
     ensures value { result ≡ first_row (fresh_rows topo.now now packet.now j) }
-    ensures fresh { IfNone result (is_timed packet.now.first ≡ true → IsFresh topo.now.profile packet.now.ts now) }
+    ensures fresh { IfNone result (IsTrue (is_timed packet.now.first) → IsFresh topo.now.profile packet.now.ts now) }
 {
     if !is_timed(packet.first_byte()) {
         return None;
@@ -99,7 +99,7 @@ fn arrival_refusal(
     ensures packet { IsPacket packet.now }
     ensures value { result ≡ first_row (arrival_rows topo.now a iface now packet.now) }
     ensures there { IfNone result (packet.now.current < hop_count packet.now) }
-    ensures fresh { IfNone result (is_timed packet.now.first ≡ true → IsFresh topo.now.profile packet.now.ts now) }
+    ensures fresh { IfNone result (IsTrue (is_timed packet.now.first) → IsFresh topo.now.profile packet.now.ts now) }
 {
     let j = packet.current();
     if let Some(refusal) = entry_refusal(packet, a, iface, j) {
@@ -170,7 +170,7 @@ impl Visit<'_, '_> {
     fn second(&self, j: u8, next: u8) -> Result<Accepted, (Check, u8)>
         requires there { next < hop_count self.now.packet.now }
         requires next { next ≡ j + 1 }
-        requires second { has_second self.now.packet.now j ≡ true }
+        requires second { IsTrue (has_second self.now.packet.now j) }
         ensures refusal { result_err result ≡ first_row (second_rows self.now.topo.now self.now.a (candidates_of self.now.present.now.number) self.now.moment self.now.packet.now j) }
         ensures accepted { IfOk result (λ x. IsAccepting self.now.topo.now self.now.a (candidates_of self.now.present.now.number) self.now.packet.now (j + 1) x) }
     {
@@ -269,7 +269,7 @@ pub(crate) fn checked_hops(
     ensures packet { IsPacket packet.now }
     ensures refusal { result_err result ≡ first_row (checked_rows topo.now a (candidates_of generation) iface now packet.now) }
     ensures accepted { IfOk result (λ h. AreAccepted topo.now a (candidates_of generation) packet.now packet.now.current h) }
-    ensures fresh { IfOk result (λ _. is_timed packet.now.first ≡ true → IsFresh topo.now.profile packet.now.ts now) }
+    ensures fresh { IfOk result (λ _. IsTrue (is_timed packet.now.first) → IsFresh topo.now.profile packet.now.ts now) }
     ensures there { IfOk result (λ _. packet.now.current < hop_count packet.now) }
 {
     if let Some(refusal) = arrival_refusal(topo, packet, a, iface, now) {

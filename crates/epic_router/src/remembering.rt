@@ -1,5 +1,5 @@
 //! What a router's window answers of a packet that passed all other checks, and remembers of it.
-ghost use Rattle.std.specs.Prelude.{◌≡◌, ℕ, ◌≤◌, true, is_none};
+ghost use Rattle.std.specs.Prelude.{◌≡◌, ℕ, ◌≤◌, IsTrue, is_none};
 ghost use Rattle.epic_num.specs.Levels.{is_timed};
 ghost use Rattle.epic_num.specs.Moments.{IsFresh};
 ghost use Rattle.epic_num.specs.Tables.{first_row};
@@ -33,7 +33,7 @@ pub(crate) fn window_refusal(
 ) -> Option<(Check, u8)>
     requires room { 1 ≤ window.old.spare }
     requires latest { window.old.latest ≤ now }
-    requires fresh { is_timed packet.now.first ≡ true → IsFresh window.old.profile packet.now.ts now }
+    requires fresh { IsTrue (is_timed packet.now.first) → IsFresh window.old.profile packet.now.ts now }
     ensures value { (t : Network) → t.profile ≡ window.old.profile → result ≡ first_row (window_rows t (told window.old now packet.now) packet.now packet.now.current) }
     ensures window { Remembers window.old window.new now turn packet.now (is_none result) }
 {

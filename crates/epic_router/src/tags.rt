@@ -1,5 +1,5 @@
 //! The tags of a packet's hops, under the keys that a router keeps ready.
-ghost use Rattle.std.specs.Prelude.{◌≡◌, ◌<◌, ℕ, List, true, IfOk};
+ghost use Rattle.std.specs.Prelude.{◌≡◌, ◌<◌, ℕ, List, IfOk, IsTrue};
 ghost use Rattle.std.specs.Result.{result_err};
 ghost use Rattle.epic_fields.specs.HopChecks.{has_link, hop_name};
 ghost use Rattle.epic_fields.specs.PacketTags.{field_over, update_over};
@@ -55,8 +55,8 @@ struct Fit {
 
 /// A hop's field and update, over its authenticator and the key that its AS shares with the packet's source.
 fn hop_tags(sigma: &[u8; 16], shared: &[u8; 16], packet: &PacketRef<'_>, j: u8) -> HopTags
-    ensures field { (key : List ℕ) → (is_tagged packet.now.first ≡ true → shared.now ≡ key) → result.field ≡ as_field (field_over key sigma.now packet.now j) }
-    ensures update { is_tagged packet.now.first ≡ true → result.update ≡ as_field (update_over shared.now sigma.now packet.now j) }
+    ensures field { (key : List ℕ) → (IsTrue (is_tagged packet.now.first) → shared.now ≡ key) → result.field ≡ as_field (field_over key sigma.now packet.now j) }
+    ensures update { IsTrue (is_tagged packet.now.first) → result.update ≡ as_field (update_over shared.now sigma.now packet.now j) }
     ensures field_width { result.field.width ≡ width_of packet.now.first }
     ensures update_width { result.update.width ≡ width_of packet.now.first }
 {
