@@ -8,6 +8,7 @@ use Rattle.std.specs.declared.cmp.Ordering.{Ordering}
 use Rattle.epic_layout.specs.Pieces.{number}
 use Rattle.epic_layout.specs.Route.{Route}
 use Rattle.epic_layout.specs.Spelling.{path_bytes}
+use Rattle.epic_num.specs.Chains.{no_name}
 use Rattle.epic_num.specs.declared.key_name.Holder.{Holder}
 use Rattle.epic_num.specs.declared.key_name.Holder.TheVariants.{As}
 use Rattle.epic_tree.specs.Index.{IsTagged}
@@ -16,7 +17,7 @@ use Rattle.epic_ledger.specs.Facts.{Sent, Pass, Reveal, as_send, as_pass, as_rev
 use Rattle.epic_ledger.specs.History.{Emission}
 use Rattle.epic_ledger.specs.Kinds.{numbers_from}
 use Rattle.epic_ledger.specs.Lawful.{IsLawful}
-use Rattle.epic_ledger.specs.Ranks.{name_cmp, host_cmp, holder_cmp, holder_tag, no_name, no_host}
+use Rattle.epic_ledger.specs.Ranks.{name_cmp, host_cmp, holder_cmp, holder_tag, no_host}
 use Rattle.epic_ledger.specs.declared.event.Event.{Event}
 use Rattle.epic_ledger.specs.declared.index.Index.{Index}
 use Rattle.epic_ledger.specs.declared.passes.Sought.{Sought}

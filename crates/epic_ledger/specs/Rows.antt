@@ -1,14 +1,14 @@
 -- How a ledger keeps its emissions and its events.
 use Rattle.std.specs.Prelude.{◌≡◌, ℕ, ◌+◌, ◌-◌, ◌≤◌, List, length, map, min, take, drop, None}
 use Rattle.std.specs.List.{All, sum_by}
-use Rattle.epic_num.specs.Chains.{Issue}
+use Rattle.epic_num.specs.Chains.{Issue, no_name}
 use Rattle.epic_num.specs.Levels.{is_first_byte}
 use Rattle.epic_layout.specs.Layout.{fault}
 use Rattle.epic_ledger.specs.History.{Emission}
 use Rattle.epic_ledger.specs.Facts.{issues_in}
 use Rattle.epic_tree.specs.Index.{IsTagged}
 use Rattle.epic_tree.specs.Sides.{Ordered}
-use Rattle.epic_ledger.specs.Ranks.{name_cmp, name_tag, names_of, no_name}
+use Rattle.epic_ledger.specs.Ranks.{name_cmp, name_tag, names_of}
 use Rattle.epic_ledger.specs.declared.event.Event.{Event}
 use Rattle.epic_ledger.specs.declared.emissions.Span.{Span}
 use Rattle.epic_ledger.specs.declared.log.Issued.{Issued}
