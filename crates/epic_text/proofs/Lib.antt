@@ -1,4 +1,4 @@
-pub mod AnswerLemmas
+pub mod CarryLemmas
 pub mod Commands
 pub mod CountLemmas
 pub mod HopLemmas
@@ -6,5 +6,7 @@ pub mod LineLemmas
 pub mod Numbers
 pub mod Parts
 pub mod PathLemmas
+pub mod SegmentLemmas
 pub mod Short
+pub mod Spelled
 pub mod VerdictLemmas

@@ -1,6 +1,7 @@
 -- The lines of a report: what each answer prints.
 use Rattle.std.specs.Prelude.{◌≡◌, ℕ, ◌+◌, ◌<◌, IsTrue, List, [], ◌∷◌, ◌++◌, map, length, codes, decimal, Option, Some, None, unwrap_or, ⊤}
 use Rattle.std.specs.List.{All, flat_map, join_with_byte}
+use Rattle.std.specs.Option.{option_map_or}
 use Rattle.hex.specs.Hex.{encode_lower}
 use Rattle.epic_num.specs.declared.answer.Answer.{Answer}
 use Rattle.epic_num.specs.declared.answer.Answer.TheVariants as answer
@@ -24,6 +25,8 @@ use Rattle.epic_layout.specs.Contents.{Contents}
 use Rattle.epic_layout.specs.Layout.{fault, parse}
 use Rattle.epic_topo.specs.Network.{Network, has}
 use Rattle.epic_fields.specs.Tags.{sigma}
+use Rattle.epic_ledger.specs.Facts.{issues_in}
+use Rattle.epic_ledger.specs.History.{Emission, History, emission_at}
 use Rattle.epic_text.specs.Line.{step_line, bytes_text}
 use Rattle.epic_text.specs.Refusals.{turn_words, arrival_words, refusal_words}
 use Rattle.epic_text.specs.VerdictText.{verdict_words, IsTellable}
@@ -127,6 +130,10 @@ answer_text t names emissions came step (answer.Rolled generation) =
     step_line step (codes "rolled" ∷ decimal generation ∷ [])
 answer_text t names emissions came step (answer.Refused refusal) = step_line step (refusal_words refusal)
 
+-- the bytes of an emission, none where it isn't there
+unfoldable pub emission_bytes : List Emission → ℕ → List ℕ
+emission_bytes emissions number = option_map_or (λ e. e.bytes) (emission_at emissions number) []
+
 -- the name of the hop that was issued under a number
 unfoldable pub issued_name : List Issue → ℕ → HopName
 issued_name issues number = unwrap_or (name_of issues number) no_name
@@ -137,7 +144,14 @@ bytes_in emissions (command.Turn asn iface bytes) = bytes
 bytes_in emissions (command.Arrive host bytes) = bytes
 bytes_in emissions (command.Pass emission) = emissions emission
 bytes_in emissions (command.Carry emission) = emissions emission
-bytes_in emissions command = []
+bytes_in emissions (command.At moment) = []
+bytes_in emissions (command.Originate asn out exp) = []
+bytes_in emissions (command.Extend parent out exp) = []
+bytes_in emissions (command.Fetch source owner epoch) = []
+bytes_in emissions (command.Paths from to) = []
+bytes_in emissions (command.Send version level src dst segments payload) = []
+bytes_in emissions (command.Reveal holder) = []
+bytes_in emissions (command.Roll asn) = []
 
 -- ---- what can be told
 
@@ -146,18 +160,27 @@ pub record IsToldPass (t : Network) (came : List ℕ) (passed : Passed) : Type 0
   pub packet : 0 < length passed.verdicts.items → fault is_first_byte came ≡ None
   pub verdicts : All (IsTellable t (parse came)) passed.verdicts.items
 
--- the answer is told over one packet, and the tags that its lines show can be computed
-abbrev pub IsToldAnswer : Network → Option HopName → List ℕ → Answer → Type 0
-IsToldAnswer t (Some name) came (answer.Issued number) = IsTrue (has t name.asn)
-IsToldAnswer t None came (answer.Issued number) = ⊥
-IsToldAnswer t issued came (answer.Passed passed) = IsToldPass t came passed
-IsToldAnswer t issued came (answer.Carried passes) = ⊥
-IsToldAnswer t issued came answer = ⊤
+-- of passes, each over the packet that came to it: what the pass before it emitted
+abbrev pub IsToldCarry : Network → (ℕ → List ℕ) → List ℕ → List Passed → Type 0
+IsToldCarry t emissions came [] = ⊤
+IsToldCarry t emissions came (passed ∷ more) =
+    IsToldPass t came passed × IsToldCarry t emissions (emissions passed.emission) more
 
--- what the lines of the answer show besides, by the issues' names and the emissions' bytes
-abbrev pub Shows : (ℕ → HopName) → (ℕ → List ℕ) → Option HopName → List ℕ → Answer → Type 0
-Shows names emissions issued emitted (answer.Issued number) = names number ≡ unwrap_or issued no_name
-Shows names emissions issued emitted (answer.Sent emission ts) = emissions emission ≡ emitted
-Shows names emissions issued emitted (answer.Passed passed) = emissions passed.emission ≡ emitted
-Shows names emissions issued emitted (answer.Carried passes) = ⊥
-Shows names emissions issued emitted answer = ⊤
+-- the hop is there, and its AS is in the topology
+abbrev pub IsKnownHop : Network → Option HopName → Type 0
+IsKnownHop t (Some name) = IsTrue (has t name.asn)
+IsKnownHop t None = ⊥
+
+-- the answer names an issue of the ledger, and the tags that its lines show can be computed
+abbrev pub IsToldAnswer : Network → History → List ℕ → Answer → Type 0
+IsToldAnswer t h came answer.Moment = ⊤
+IsToldAnswer t h came (answer.Issued number) = IsKnownHop t (name_of (issues_in h.events) number)
+IsToldAnswer t h came answer.Fetched = ⊤
+IsToldAnswer t h came answer.Known = ⊤
+IsToldAnswer t h came (answer.Paths paths) = ⊤
+IsToldAnswer t h came (answer.Sent emission ts) = ⊤
+IsToldAnswer t h came (answer.Passed passed) = IsToldPass t came passed
+IsToldAnswer t h came (answer.Carried passes) = IsToldCarry t (emission_bytes h.emissions) came passes
+IsToldAnswer t h came answer.Revealed = ⊤
+IsToldAnswer t h came (answer.Rolled generation) = ⊤
+IsToldAnswer t h came (answer.Refused refusal) = ⊤

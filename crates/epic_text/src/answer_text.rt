@@ -1,19 +1,22 @@
 //! The lines of answers.
 
-ghost use Rattle.std.specs.Prelude.{◌≡◌, ◌∷◌, [], codes, decimal, IfOk, IsTrue, unwrap_or};
+ghost use Rattle.std.specs.Prelude.{◌≡◌, ◌∷◌, [], codes, decimal, IfOk, IsTrue};
 ghost use Rattle.std.specs.String.{string_bytes};
+ghost use Rattle.epic_num.specs.Chains.{name_of};
 ghost use Rattle.epic_topo.specs.Network.{has};
+ghost use Rattle.epic_ledger.specs.Facts.{issues_in};
 ghost use Rattle.epic_audit.specs.ForgedText.{words_text};
 ghost use Rattle.epic_text.specs.Line.{Prints, bytes_text, step_line};
 ghost use Rattle.epic_text.specs.Refusals as refusals;
 ghost use Rattle.epic_text.specs.Report as spec;
-ghost use Rattle.epic_text.specs.Report.{IsToldAnswer};
-ghost use Rattle.epic_num.specs.Chains.{no_name};
+ghost use Rattle.epic_text.specs.Report.{IsKnownHop, IsToldAnswer, emission_bytes, issued_name};
 
+use crate::carried_text::{emission_bytes, print_carried};
 use crate::line::{allocated, append, bytes_text, print_line};
 use crate::passed_text::print_passed;
 use crate::refusal_words::refusal_words;
 use epic_fields::sigma;
+use epic_ledger::Ledger;
 use epic_num::{Answer, HopName, OutOfMemory, PathList, PathRef, Refusal};
 use epic_topo::Topology;
 use std::alloc::{AllocError, Global};
@@ -147,50 +150,71 @@ pub fn print_refusal(to: &mut Vec<u8>, step: u32, refusal: &Refusal) -> Result<(
     print_line(to, step, words.as_bytes())
 }
 
-/// What the lines of an answer show besides the answer.
-#[derive(Clone, Copy)]
-pub struct Shown<'a> {
-    /// The name of the hop that was issued.
-    pub issued: Option<HopName>,
-    /// The bytes that came to a router or a host.
-    pub came: &'a [u8],
-    /// The bytes of the emission that the step made.
-    pub emitted: &'a [u8],
+/// Appends the line of the issue of a number, which is in the ledger.
+#[tactic(auto, unfolding(crate::specs::Report::issued_name, epic_num::specs::Chains::name_of, epic_ledger::specs::Facts::facts_of))]
+fn print_issue(
+    to: &mut Vec<u8>,
+    step: u32,
+    topo: &Topology,
+    ledger: &Ledger,
+    number: u32,
+) -> Result<(), OutOfMemory>
+    requires { IsKnownHop topo.now (name_of (issues_in ledger.now.history.events) number) }
+    ensures { Prints to.old.items to.new.items
+        (step_line step
+        (spec.issue_words topo.now number
+        (issued_name (issues_in ledger.now.history.events) number)))
+        result }
+{
+    match ledger.issue(number) {
+        Some((name, _)) => print_issued(to, step, topo, number, &name),
+        None => unreachable!(),
+    }
 }
 
-/// Appends the lines of an answer, with what it shows besides. On an error `to` is as it was.
+/// Appends the lines of an answer.
+///
+/// `ledger` is as it is after the step, and `came` are the bytes that the step's command brought to
+/// a router or a host (`bytes_in`). On an error `to` is as it was.
 #[tactic(auto, unfolding(crate::specs::Report::answer_text))]
 pub fn print_answer(
     to: &mut Vec<u8>,
     step: u32,
     topo: &Topology,
-    shown: &Shown<'_>,
+    ledger: &Ledger,
+    came: &[u8],
     answer: &Answer,
 ) -> Result<(), OutOfMemory>
-    requires { IsToldAnswer topo.now shown.now.issued shown.now.came.now answer.now }
+    requires { IsToldAnswer topo.now ledger.now.history came.now answer.now }
     ensures { Prints to.old.items to.new.items
         (spec.answer_text topo.now
-        (λ _. unwrap_or shown.now.issued no_name)
-        (λ _. shown.now.emitted.now)
-        shown.now.came.now step answer.now)
+        (issued_name (issues_in ledger.now.history.events))
+        (emission_bytes ledger.now.history.emissions)
+        came.now step answer.now)
         result }
 {
     match answer {
         Answer::Moment => Ok(()),
-        Answer::Issued { no } => match &shown.issued {
-            Some(name) => print_issued(to, step, topo, *no, name),
-            None => unreachable!(),
-        },
+        Answer::Issued { no } => print_issue(to, step, topo, ledger, *no),
         Answer::Fetched => print_line(to, step, b"fetched"),
         Answer::Known => print_line(to, step, b"known"),
         Answer::Paths(paths) => print_paths(to, step, paths),
-        Answer::Sent { emission, ts } => print_sent(to, step, *emission, *ts, shown.emitted),
-        Answer::Passed(passed) => {
-            print_passed(to, step, topo, shown.came, shown.emitted, passed)
+        Answer::Sent { emission, ts } => {
+            let bytes = emission_bytes(ledger, *emission);
+            print_sent(to, step, *emission, *ts, bytes)
         }
-        Answer::Carried(_) => unreachable!(),
+        Answer::Passed(passed) => {
+            let emitted = emission_bytes(ledger, passed.emission);
+            print_passed(to, step, topo, came, emitted, passed)
+        }
+        Answer::Carried(passes) => {
+            print_carried(to, step, topo, ledger, came, passes.as_slice())
+        }
         Answer::Revealed => print_line(to, step, b"revealed"),
         Answer::Rolled { generation } => print_rolled(to, step, *generation),
         Answer::Refused(refusal) => print_refusal(to, step, refusal),
     }
 }
+
+#[cfg(test)]
+mod tests;

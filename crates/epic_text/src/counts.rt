@@ -72,3 +72,6 @@ pub fn print_end(to: &mut Vec<u8>, counts: &Counts) -> Result<(), OutOfMemory>
     let line = allocated(format!(in *to.allocator(); "{words}\n"))?;
     append(to, line.as_bytes())
 }
+
+#[cfg(test)]
+mod tests;

@@ -2,23 +2,27 @@
 #![tactic(auto)]
 
 mod answer_text;
+mod carried_text;
 mod counts;
+mod laws;
 mod line;
 mod lines;
 mod passed_text;
 mod refusal_words;
 mod run_command;
-mod script;
 #[cfg(test)]
-mod tests;
+mod samples;
+mod script;
+mod segment_word;
 mod verdict_text;
 mod word;
 
 pub use answer_text::{
-    Shown, print_answer, print_issued, print_path, print_paths, print_refusal, print_rolled,
-    print_sent,
+    print_answer, print_issued, print_path, print_paths, print_refusal, print_rolled, print_sent,
 };
+pub use carried_text::{bytes_in, emission_bytes, print_carried};
 pub use counts::{Counts, counted, print_end};
+pub use laws::commands_are_spelled;
 pub use line::print_line;
 pub use passed_text::{print_pass, print_passed};
 pub use script::{FromWords, MAX_COMMANDS, ScriptError, ScriptKind, WordsError, read_script};

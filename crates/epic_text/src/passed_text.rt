@@ -184,3 +184,6 @@ pub fn print_passed(
     )?;
     append(to, &lines)
 }
+
+#[cfg(test)]
+mod tests;

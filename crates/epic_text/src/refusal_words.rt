@@ -179,3 +179,6 @@ pub fn refusal_words(alloc: Global, refusal: &Refusal) -> Result<String, AllocEr
         Refusal::UnknownEmission(emission) => refused_number(alloc, "unknown-emission", *emission),
     }
 }
+
+#[cfg(test)]
+mod tests;

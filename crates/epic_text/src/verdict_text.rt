@@ -159,3 +159,6 @@ pub fn print_dest(
     print_verdict(&mut words, topo, packet, verdict)?;
     print_line(to, step, &words)
 }
+
+#[cfg(test)]
+mod tests;

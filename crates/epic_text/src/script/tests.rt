@@ -33,7 +33,7 @@ fn scripts_that_are_refused(rt: HostRuntime) {
         (b"turn 1-1 1 --", 1, bad(4)),
         (b"jump\n", 1, ScriptKind::UnknownVerb),
         (b"orig", 1, ScriptKind::UnknownVerb),
-        (b"arrive 1-1,1 -", 1, ScriptKind::UnknownVerb),
+        (b"send9 1", 1, ScriptKind::UnknownVerb),
         (b"originate 0-1 0 0 0", 1, ScriptKind::WordCount),
         (b"turn 1-1 1 zz\nfly", 1, bad(4)),
     ];

@@ -2,7 +2,7 @@ use Rattle.std.proofs.Common.{rules, ◌≡◌, IfOk, map, length, nat_lt}
 use Rattle.std.proofs.lemmas.Iterator.Consumers.{map_from_collect, YieldsList-from_filter}
 use Rattle.std.proofs.lemmas.Iterator.Splits.{YieldsList-from_slice_split}
 use Rattle.epic_text.specs.Lines.{is_blank, words}
-use Rattle.epic_text.proofs.Short.{collected_short}
+use Rattle.epic_text.proofs.Short.{collected_short, words_short}
 use Rattle.epic_text.proofs.lines.words.Goals as goal
 use borrow.Author.Tests.{tests}
 
@@ -16,5 +16,5 @@ collected c =
 pub returns : goal.returns
 returns c = record {
   value = collected c;
-  within = collected_short c.args.line.now c.collect.result (collected c);
+  within = collected_short (length c.args.line.now) (words c.args.line.now) (words_short c.args.line.now) c.collect.result (collected c);
 }

@@ -1,0 +1,69 @@
+//! A topology, hops and packets for tests.
+
+use epic_num::{AsId, Body, HopName};
+use epic_topo::{Topology, read_topology};
+use std::alloc::Global;
+use std::process::Abort;
+use std::test::Fail;
+
+// Two ASes, each with one byte as its master key.
+const TEXT: &[u8] =
+    b"[[as]]\nname='1-ff00:0:111'\nkey='03030303030303030303030303030303'\n[[as]]\nname='1-ff00:0:112'\nkey='04040404040404040404040404040404'\n";
+
+/// An AS at the end of a segment.
+pub const LEAF: AsId = AsId(0x0001_ff00_0000_0112);
+
+/// The AS before it.
+pub const MIDDLE: AsId = AsId(0x0001_ff00_0000_0111);
+
+/// The last hop of a segment.
+pub const LAST: HopName = HopName {
+    asn: LEAF,
+    generation: 0,
+    body: Body {
+        pos: 3,
+        exp: 63,
+        ts_path: 0x6553_f100,
+        inn: 1,
+        out: 0,
+        link: [0xf0, 0x2f, 0xdc, 0xef, 0x5b, 0xe8, 0x61, 0x97],
+    },
+};
+
+/// The hop before it.
+pub const BEFORE: HopName = HopName {
+    asn: MIDDLE,
+    generation: 0,
+    body: Body {
+        pos: 2,
+        exp: 63,
+        ts_path: 0x6553_f100,
+        inn: 1,
+        out: 2,
+        link: [0x5f, 0xc8, 0x56, 0x7c, 0xf2, 0x7d, 0x68, 0x59],
+    },
+};
+
+/// A packet of level 0 as it came in.
+pub const CAME: &str =
+    "e0000060000001000001ff00000001120001ff00000001100000000100000003000000000000000001030000\
+    6553f1003f00010000f02fdcef5be861973095d23f000100025fc8567cf27d6859545a3e3f00000002000000\
+    0000000000c11c94";
+
+/// The same as it went on.
+pub const WENT: &str =
+    "e0000060000001010001ff00000001120001ff00000001100000000100000003000000000000000001030000\
+    6553f1003f00010000f02fdcef5be861973095d23f000100025fc8567cf27d6859545a3e3f00000002000000\
+    0000000000c11c94";
+
+/// One whose first hop was never issued.
+pub const NEVER_ISSUED: &str =
+    "e0000060000001000001ff00000001120001ff00000001100000000100000003000000000000000001030000\
+    6553f1003e00010000f02fdcef5be86197f8c9613f000100025fc8567cf27d6859545a3e3f00000002000000\
+    0000000000c11c94";
+
+/// The two ASes.
+pub fn topology(rt: &impl Abort, alloc: Global) -> Result<Topology, Fail> {
+    assert!(rt; TEXT.len() <= 1_048_576);
+    Ok(read_topology(alloc, TEXT)?)
+}
