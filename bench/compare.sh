@@ -16,11 +16,11 @@ room=$(mktemp -d) || exit 2
 trap 'rm -rf "$room"' EXIT
 
 # How many rounds a run has, some two milliseconds.
-declare -A rounds=([aes]=600 [cmac]=400 [short]=8000 [turn]=400)
+declare -A rounds=([aes]=600 [cmac]=400 [short]=8000)
 # These have as many packets or offers as the peer's.
 rounds+=([turn0]=20000 [turn1]=20000 [turn2]=20000 [turn3]=20000 [arrive3]=20000 [send3]=20000)
 rounds+=([window-1]=200000 [window-100]=200000 [window-4096]=200000)
-works=(aes cmac short turn turn0 turn1 turn2 turn3 arrive3 send3 window-1 window-100 window-4096)
+works=(aes cmac short turn0 turn1 turn2 turn3 arrive3 send3 window-1 window-100 window-4096)
 names=()
 
 build() { # NAME, and rt's words: proves and builds the program
@@ -111,7 +111,6 @@ awk '
     show("a block in a chain, the other build to ours", "aes", "rattle", "")
     show("a tag of 1500 bytes, the other build to ours", "cmac", "rattle", "")
     show("a tag of 27 bytes, the other build to ours", "short", "rattle", "")
-    show("a turn of level 0, the other build to ours", "turn", "rattle", "")
     for (level = 0; level < 4; level++)
       show("a turn of level " level " at one router, the other build to ours", "turn" level, "rattle", "")
     show("an arrival of level 3, the other build to ours", "arrive3", "rattle", "")

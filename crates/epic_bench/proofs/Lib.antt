@@ -4,4 +4,3 @@ mod Offering
 mod Routing
 mod Sending
 mod Taking
-mod Travels

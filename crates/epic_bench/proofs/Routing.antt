@@ -15,8 +15,7 @@ use Rattle.epic_router.specs.Candidates.{candidates_of}
 use Rattle.epic_router.specs.Handling.{turn_of}
 use Rattle.epic_router.specs.Remembering.{Remembers, is_accepted, key_at, told}
 use Rattle.epic_router.specs.Routers.{RouterState}
-use Rattle.epic_bench.specs.Routed.{Met, met, met_one}
-use Rattle.epic_bench.specs.Turns.{accepted_by}
+use Rattle.epic_bench.specs.Routed.{Met, accepted_by, met, met_one}
 use Rattle.epic_bench.specs.declared.routed.TheConstants.{IFACE, NO_PACKET, ROUTER}
 use Rattle.epic_bench.specs.declared.way.TheConstants.{NOW}
 

@@ -2,7 +2,6 @@ pub mod Routed
 pub mod Arrived
 pub mod Sends
 pub mod Offers
-pub mod Turns
 pub mod Works
 pub mod Tasks
 pub mod Lines

@@ -4,7 +4,7 @@ use Rattle.std.specs.Option.{option_map, option_and_then}
 use Rattle.epic_num.specs.Names.{number_within}
 use Rattle.epic_bench.specs.declared.work.Load.TheVariants.{One, Hundred, Thousands}
 use Rattle.epic_bench.specs.declared.work.Work.{Work}
-use Rattle.epic_bench.specs.declared.work.Work.TheVariants.{Aes, Cmac, Short, Turn, Routed, Arrived, Sends, Window}
+use Rattle.epic_bench.specs.declared.work.Work.TheVariants.{Aes, Cmac, Short, Routed, Arrived, Sends, Window}
 use Rattle.epic_num.specs.declared.hop.Level.TheVariants.{L0, L1, L2, L3}
 use Rattle.epic_bench.specs.declared.words.Request.{Request}
 use Rattle.epic_bench.specs.declared.words.Request.TheVariants.{Time, Digests}
@@ -23,7 +23,6 @@ work_of word =
     if bytes_eq word (codes "aes") then Some Aes
     else if bytes_eq word (codes "cmac") then Some Cmac
     else if bytes_eq word (codes "short") then Some Short
-    else if bytes_eq word (codes "turn") then Some Turn
     else if bytes_eq word (codes "turn0") then Some (Routed L0)
     else if bytes_eq word (codes "turn1") then Some (Routed L1)
     else if bytes_eq word (codes "turn2") then Some (Routed L2)

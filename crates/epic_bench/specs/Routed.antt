@@ -3,6 +3,8 @@ use Rattle.std.specs.Prelude.{◌≡◌, ℕ, zero, suc, ◌+◌, ◌&&◌, if�
 use Rattle.epic_cmac.specs.Cmac.{cmac}
 use Rattle.epic_num.specs.BigEndian.{u64_bytes}
 use Rattle.epic_num.specs.Levels.{is_timed}
+use Rattle.epic_num.specs.declared.turn.Turn.{Turn}
+use Rattle.epic_num.specs.declared.turn.Turn.TheVariants.{Forward, Deliver, Refused}
 use Rattle.epic_layout.specs.Layout.{parse}
 use Rattle.epic_topo.specs.Network.{Network}
 use Rattle.epic_topo.specs.Reading.{topology}
@@ -10,7 +12,6 @@ use Rattle.epic_window.specs.Entries.{Entries, told_of}
 use Rattle.epic_router.specs.Candidates.{candidates_of}
 use Rattle.epic_router.specs.Handling.{turn_of}
 use Rattle.epic_router.specs.Remembering.{is_accepted, key_at}
-use Rattle.epic_bench.specs.Turns.{accepted_by}
 use Rattle.epic_bench.specs.declared.routed.TheConstants.{IFACE, NO_PACKET, ROUTER}
 use Rattle.epic_bench.specs.declared.way.TheConstants.{CHAIN, NOW}
 use Rattle.epic_bench.specs.declared.work.TheConstants.{KEY}
@@ -19,6 +20,11 @@ use Rattle.epic_bench.specs.declared.work.TheConstants.{KEY}
 pub record Met : Type 0 where
   pub entries : Entries
   pub accepted : ℕ
+
+abbrev pub accepted_by : Turn → ℕ
+accepted_by (Forward out hops generations) = 1
+accepted_by (Deliver host hops generations) = 1
+accepted_by (Refused check hop) = 0
 
 -- after one more packet, in the turn of a number
 unfoldable pub met_one : Network → ℕ → List ℕ → Met → Met

@@ -8,7 +8,7 @@ use Rattle.epic_bench.specs.declared.words.Request.{Request}
 use Rattle.epic_bench.specs.declared.words.Request.TheVariants.{Time, Digests}
 use Rattle.epic_bench.specs.declared.work.Load.TheVariants.{One, Hundred, Thousands}
 use Rattle.epic_bench.specs.declared.work.Work.{Work}
-use Rattle.epic_bench.specs.declared.work.Work.TheVariants.{Aes, Cmac, Short, Turn, Routed, Arrived, Sends, Window}
+use Rattle.epic_bench.specs.declared.work.Work.TheVariants.{Aes, Cmac, Short, Routed, Arrived, Sends, Window}
 use Rattle.epic_num.specs.declared.hop.Level.TheVariants.{L0, L1, L2, L3}
 use Rattle.epic_bench.specs.Lines.{◌⊕◌, IsLine, IsTimedLine}
 
@@ -17,7 +17,6 @@ pub record AreLines (rounds : ℕ) (text : List ℕ) : Type 0 where
   pub aes : List ℕ
   pub cmac : List ℕ
   pub short : List ℕ
-  pub turn : List ℕ
   pub level_0 : List ℕ
   pub level_1 : List ℕ
   pub level_2 : List ℕ
@@ -30,7 +29,6 @@ pub record AreLines (rounds : ℕ) (text : List ℕ) : Type 0 where
   pub is_aes : IsLine Aes rounds aes
   pub is_cmac : IsLine Cmac rounds cmac
   pub is_short : IsLine Short rounds short
-  pub is_turn : IsLine Turn rounds turn
   pub is_level_0 : IsLine (Routed L0) rounds level_0
   pub is_level_1 : IsLine (Routed L1) rounds level_1
   pub is_level_2 : IsLine (Routed L2) rounds level_2
@@ -40,7 +38,7 @@ pub record AreLines (rounds : ℕ) (text : List ℕ) : Type 0 where
   pub is_one : IsLine (Window One) rounds one
   pub is_hundred : IsLine (Window Hundred) rounds hundred
   pub is_thousands : IsLine (Window Thousands) rounds thousands
-  pub joined : text ≡ aes ⊕ (cmac ⊕ (short ⊕ (turn ⊕ (level_0 ⊕ (level_1 ⊕ (level_2 ⊕ (level_3 ⊕ (arrival ⊕ (send ⊕ (one ⊕ (hundred ⊕ thousands)))))))))))
+  pub joined : text ≡ aes ⊕ (cmac ⊕ (short ⊕ (level_0 ⊕ (level_1 ⊕ (level_2 ⊕ (level_3 ⊕ (arrival ⊕ (send ⊕ (one ⊕ (hundred ⊕ thousands))))))))))
 
 -- the text that a request asks for
 abbrev pub IsTextOf : Request → List ℕ → Type 0
@@ -69,7 +67,6 @@ abbrev pub IsOfPackets : Work → Type 0
 IsOfPackets Aes = ⊥
 IsOfPackets Cmac = ⊥
 IsOfPackets Short = ⊥
-IsOfPackets Turn = Unit {0}
 IsOfPackets (Routed level) = Unit {0}
 IsOfPackets Arrived = Unit {0}
 IsOfPackets Sends = Unit {0}

@@ -1,23 +1,19 @@
 -- What each work computes, and in what its operations are counted.
-use Rattle.std.specs.Prelude.{◌≡◌, ℕ, ◌+◌, ◌*◌, ◌%◌, List, map, Ok, codes}
+use Rattle.std.specs.Prelude.{◌≡◌, ℕ, ◌+◌, ◌*◌, ◌%◌, List, map, codes}
 use Rattle.std.specs.Fn.{iterate}
 use Rattle.std.specs.List.{range_with_len}
 use Rattle.std.specs.Simd.{first_chunks}
 use Rattle.epic_aes.specs.Chain.{chain}
 use Rattle.epic_cmac.specs.Cmac.{cmac}
-use Rattle.epic_topo.specs.Network.{Network}
-use Rattle.epic_topo.specs.Reading.{topology}
-use Rattle.epic_bench.specs.declared.way.TheConstants.{CHAIN}
 use Rattle.epic_bench.specs.declared.work.TheConstants.{KEY}
 use Rattle.epic_bench.specs.declared.work.Load.TheVariants.{One, Hundred, Thousands}
 use Rattle.epic_bench.specs.declared.work.Work.{Work}
-use Rattle.epic_bench.specs.declared.work.Work.TheVariants.{Aes, Cmac, Short, Turn, Routed, Arrived, Sends, Window}
+use Rattle.epic_bench.specs.declared.work.Work.TheVariants.{Aes, Cmac, Short, Routed, Arrived, Sends, Window}
 use Rattle.epic_num.specs.declared.hop.Level.TheVariants.{L0, L1, L2, L3}
 use Rattle.epic_bench.specs.Arrived.{IsArrivedDigest}
 use Rattle.epic_bench.specs.Offers.{offers_digest}
 use Rattle.epic_bench.specs.Routed.{IsRoutedDigest}
 use Rattle.epic_bench.specs.Sends.{IsSentDigest}
-use Rattle.epic_bench.specs.Turns.{turns_digest}
 
 -- a message of so many bytes, which count up from the seed modulo 256
 unfoldable pub message : ℕ → ℕ → List ℕ
@@ -32,13 +28,11 @@ chained rounds = iterate (λ x. chain KEY x (first_chunks 16 64 (message rounds 
 unfoldable pub tagged : ℕ → ℕ → List ℕ
 tagged size rounds = iterate (λ key. cmac key (message rounds size)) rounds KEY
 
--- 16 bytes that tell what a work gave in so many rounds; that of turns, for a packet down the chain
+-- 16 bytes that tell what a work gave in so many rounds
 abbrev pub IsDigest : Work → ℕ → List ℕ → Type 0
 IsDigest Aes rounds digest = digest ≡ chained rounds
 IsDigest Cmac rounds digest = digest ≡ tagged 1500 rounds
 IsDigest Short rounds digest = digest ≡ tagged 27 rounds
-IsDigest Turn rounds digest =
-    (t : Network) × (topology CHAIN.now ≡ Ok t) × ((packet : List ℕ) × (digest ≡ turns_digest t packet rounds))
 IsDigest (Routed level) rounds digest = IsRoutedDigest rounds digest
 IsDigest Arrived rounds digest = IsArrivedDigest rounds digest
 IsDigest Sends rounds digest = IsSentDigest rounds digest
@@ -49,7 +43,6 @@ abbrev pub operations_a_round : Work → ℕ
 operations_a_round Aes = 64
 operations_a_round Cmac = 1
 operations_a_round Short = 1
-operations_a_round Turn = 8
 operations_a_round (Routed level) = 1
 operations_a_round Arrived = 1
 operations_a_round Sends = 1
@@ -63,7 +56,6 @@ abbrev pub name_of : Work → List ℕ
 name_of Aes = codes "aes"
 name_of Cmac = codes "cmac"
 name_of Short = codes "short"
-name_of Turn = codes "turn"
 name_of (Routed L0) = codes "turn0"
 name_of (Routed L1) = codes "turn1"
 name_of (Routed L2) = codes "turn2"
@@ -79,7 +71,6 @@ abbrev pub unit_of : Work → List ℕ
 unit_of Aes = codes "blocks"
 unit_of Cmac = codes "messages"
 unit_of Short = codes "messages"
-unit_of Turn = codes "turns"
 unit_of (Routed level) = codes "turns"
 unit_of Arrived = codes "arrivals"
 unit_of Sends = codes "sends"

@@ -10,9 +10,9 @@ ghost use Rattle.epic_bench.specs.declared.arrived.TheConstants.{HOST};
 ghost use Rattle.epic_bench.specs.declared.top.End.TheVariants.{OutOfMemory};
 ghost use Rattle.epic_bench.specs.declared.way.TheConstants.{CHAIN, NOW};
 
+use crate::digests::digest;
 use crate::routed::{LEN, NO_PACKET, packet_at};
 use crate::top::End;
-use crate::turns::digest;
 use crate::way::{CHAIN, NOW, chain, has_all, packet, segment};
 use crate::work::KEY;
 use epic_ends::Dest;

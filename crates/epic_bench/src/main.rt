@@ -2,6 +2,7 @@
 #![tactic(auto)]
 
 mod arrived;
+mod digests;
 mod offers;
 mod report;
 mod routed;
@@ -9,7 +10,6 @@ mod sends;
 #[cfg(test)]
 mod tests;
 mod top;
-mod turns;
 mod way;
 mod words;
 mod work;

@@ -4,8 +4,8 @@ ghost use Rattle.std.specs.Prelude.{◌≡◌, ◌<◌, ◌≤◌, IfOk, IfErr};
 ghost use Rattle.epic_bench.specs.Offers.{fresh_by, key_of, moment_of, offers_digest, step_of};
 ghost use Rattle.epic_bench.specs.declared.top.End.TheVariants.{OutOfMemory};
 
+use crate::digests::digest;
 use crate::top::End;
-use crate::turns::digest;
 use crate::way::NOW;
 use crate::work::{KEY, Load};
 use epic_num::{AsId, HostId, Profile};

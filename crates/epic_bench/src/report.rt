@@ -63,7 +63,6 @@ fn digest_lines(alloc: Global, rounds: u32) -> Result<String, End>
     let aes = digest_line(alloc, Work::Aes, rounds)?;
     let cmac = digest_line(alloc, Work::Cmac, rounds)?;
     let short = digest_line(alloc, Work::Short, rounds)?;
-    let turn = digest_line(alloc, Work::Turn, rounds)?;
     let level_0 = digest_line(alloc, Work::Routed(Level::L0), rounds)?;
     let level_1 = digest_line(alloc, Work::Routed(Level::L1), rounds)?;
     let level_2 = digest_line(alloc, Work::Routed(Level::L2), rounds)?;
@@ -76,7 +75,7 @@ fn digest_lines(alloc: Global, rounds: u32) -> Result<String, End>
     let windows = format!(in alloc; "{one}{hundred}{thousands}")?;
     let ends = format!(in alloc; "{arrival}{send}{windows}")?;
     let levels = format!(in alloc; "{level_0}{level_1}{level_2}{level_3}{ends}")?;
-    Ok(format!(in alloc; "{aes}{cmac}{short}{turn}{levels}")?)
+    Ok(format!(in alloc; "{aes}{cmac}{short}{levels}")?)
 }
 
 /// The digest of a work, and how many nanoseconds its rounds took.

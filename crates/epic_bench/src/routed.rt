@@ -3,20 +3,20 @@
 ghost use Rattle.std.specs.Prelude.{◌≡◌, ◌≤◌, Ok, IsTrue, IfOk, IfErr, slice_index_or};
 ghost use Rattle.epic_topo.specs.Network.{has};
 ghost use Rattle.epic_topo.specs.Reading.{topology};
-ghost use Rattle.epic_bench.specs.Routed.{IsRoutedDigest, accepted_of};
+ghost use Rattle.epic_bench.specs.Routed.{IsRoutedDigest, accepted_by, accepted_of};
 ghost use Rattle.epic_bench.specs.Run.{MakesNothing};
 ghost use Rattle.epic_bench.specs.declared.routed.TheConstants.{ROUTER};
 ghost use Rattle.epic_bench.specs.declared.top.End.TheVariants.{OutOfMemory};
 ghost use Rattle.epic_bench.specs.declared.way.TheConstants.{CHAIN, NOW};
 
+use crate::digests::digest;
 use crate::top::End;
-use crate::turns::{accepted_by, digest};
 use crate::way::{CHAIN, NOW, chain, has_all, packet, segment};
 use crate::work::KEY;
 use epic_fields::field_of;
 use epic_layout::check;
 use epic_layout::wire::{CURRENT_AT, TS_AT};
-use epic_num::{AsId, HopName, Level};
+use epic_num::{AsId, HopName, Level, Turn};
 use epic_router::Router;
 use epic_topo::Topology;
 use epic_view::{PacketRef, PacketView};
@@ -103,6 +103,17 @@ pub(crate) fn packet_at(packets: &[[u8; LEN]], i: u32) -> [u8; LEN]
     match packets.get(i as usize) {
         Some(packet) => *packet,
         None => NO_PACKET,
+    }
+}
+
+/// 1 for a packet that goes on, else 0.
+fn accepted_by(answer: &Turn) -> u64
+    ensures value { result ≡ accepted_by answer.now }
+    ensures bound { result ≤ 1 }
+{
+    match answer {
+        Turn::Forward { .. } | Turn::Deliver { .. } => 1,
+        Turn::Refused { .. } => 0,
     }
 }
 

@@ -12,10 +12,10 @@ ghost use Rattle.epic_bench.specs.declared.top.End.TheVariants.{OutOfMemory};
 ghost use Rattle.epic_bench.specs.declared.way.TheConstants.{CHAIN};
 
 use crate::arrived::HOST;
+use crate::digests::digest;
 use crate::offers::SOURCE;
 use crate::top::End;
-use crate::turns::digest;
-use crate::way::{CHAIN, NOW, STEPS, chain, has_all, segment};
+use crate::way::{ASES, CHAIN, NOW, chain, has_all, segment};
 use epic_ends::{SendError, Source, has_path};
 use epic_keys::KeyStore;
 use epic_num::{Bytes, Level, Path};
@@ -32,11 +32,11 @@ fn keys(alloc: Global, topo: &Topology) -> Result<KeyStore, End>
 {
     let epoch = topo.profile().epoch_of(NOW);
     let mut keys = KeyStore::new(alloc);
-    for step in &STEPS {
-        if !topo.has(SOURCE.asn) || !topo.has(step.asn) {
+    for asn in &ASES {
+        if !topo.has(SOURCE.asn) || !topo.has(*asn) {
             return Err(End::NoPacket);
         }
-        if keys.fetch(topo, SOURCE.asn, step.asn, epoch).is_err() {
+        if keys.fetch(topo, SOURCE.asn, *asn, epoch).is_err() {
             return Err(End::OutOfMemory);
         }
     }

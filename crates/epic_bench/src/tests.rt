@@ -76,10 +76,6 @@ fn prints_times(rt: HostRuntime) -> Result<(), Fail> {
             "short 4 messages bb0caf06867ca92b4cde0f3e8965a478 250000.0 ns\n",
         ),
         (
-            ["turn", "1"],
-            "turn 8 turns 48f9193ee2da264ffab16fce6c3609cf 125000.0 ns\n",
-        ),
-        (
             ["turn3", "2"],
             "turn3 2 turns e4eb03bb450921fe451ad63b0e2b379a 500000.0 ns\n",
         ),

@@ -1,10 +1,10 @@
-//! A chain of ASes, and a packet that goes down it.
+//! A chain of ASes, and packets that go down it.
 
 ghost use Rattle.std.specs.Prelude.{◌≡◌, Ok, IsTrue, IfOk, IfErr};
 ghost use Rattle.std.specs.List.{list_all};
 ghost use Rattle.epic_topo.specs.Network.{has};
 ghost use Rattle.epic_topo.specs.Reading.{topology};
-ghost use Rattle.epic_bench.specs.declared.way.TheConstants.{CHAIN, STEPS};
+ghost use Rattle.epic_bench.specs.declared.way.TheConstants.{ASES, CHAIN};
 ghost use Rattle.epic_bench.specs.Run.{MakesNothing};
 
 use crate::top::End;
@@ -38,50 +38,19 @@ pub(crate) const CHAIN: &[u8] = b"profile = { window = 65536 }\n\
       { kind = 'child', a = '1-7', a_if = 2, b = '1-8', b_if = 1 },\n\
     ]\n";
 
-/// An AS of the chain, and the interface by which packets come to it.
-#[derive(Clone, Copy, Debug)]
-pub(crate) struct Step {
-    pub asn: AsId,
-    pub iface: u16,
-}
-
 /// The first of them.
 const FIRST: AsId = AsId(0x0001_0000_0000_0001);
 
 /// All, in order.
-pub(crate) const STEPS: [Step; 8] = [
-    Step {
-        asn: AsId(0x0001_0000_0000_0001),
-        iface: 0,
-    },
-    Step {
-        asn: AsId(0x0001_0000_0000_0002),
-        iface: 1,
-    },
-    Step {
-        asn: AsId(0x0001_0000_0000_0003),
-        iface: 1,
-    },
-    Step {
-        asn: AsId(0x0001_0000_0000_0004),
-        iface: 1,
-    },
-    Step {
-        asn: AsId(0x0001_0000_0000_0005),
-        iface: 1,
-    },
-    Step {
-        asn: AsId(0x0001_0000_0000_0006),
-        iface: 1,
-    },
-    Step {
-        asn: AsId(0x0001_0000_0000_0007),
-        iface: 1,
-    },
-    Step {
-        asn: AsId(0x0001_0000_0000_0008),
-        iface: 1,
-    },
+pub(crate) const ASES: [AsId; 8] = [
+    AsId(0x0001_0000_0000_0001),
+    AsId(0x0001_0000_0000_0002),
+    AsId(0x0001_0000_0000_0003),
+    AsId(0x0001_0000_0000_0004),
+    AsId(0x0001_0000_0000_0005),
+    AsId(0x0001_0000_0000_0006),
+    AsId(0x0001_0000_0000_0007),
+    AsId(0x0001_0000_0000_0008),
 ];
 
 /// The moment of all issues and turns, in microseconds.
@@ -92,15 +61,6 @@ const DOWN: u16 = 2;
 
 /// The expiry byte of all hops.
 const EXPIRY: u8 = 63;
-
-/// The topology of the chain, with a packet that goes down it.
-#[derive(Drop)]
-pub(crate) struct Way {
-    pub topo: Topology,
-    pub packet: Vec<u8>,
-    pub ghost of_chain: { topology CHAIN.now ≡ Ok topo },
-    pub ghost known: { IsTrue (list_all (λ step. has topo step.asn) STEPS) },
-}
 
 /// The chain's topology.
 pub(crate) fn chain(alloc: Global) -> Result<Topology, End>
@@ -116,9 +76,9 @@ pub(crate) fn chain(alloc: Global) -> Result<Topology, End>
 
 /// Whether all ASes of the chain are in the topology.
 pub(crate) fn has_all(topo: &Topology) -> bool
-    ensures { result ≡ list_all (λ step. has topo.now step.asn) STEPS }
+    ensures { result ≡ list_all (λ a. has topo.now a) ASES }
 {
-    STEPS.iter().all(|step| topo.has(step.asn))
+    ASES.iter().all(|a| topo.has(*a))
 }
 
 /// Why a hop wasn't issued, or a chain has no segment.
@@ -140,8 +100,8 @@ pub(crate) fn segment(alloc: Global, topo: &Topology) -> Result<Segment, End>
     let mut last = store
         .originate(topo, FIRST, DOWN, EXPIRY, NOW)
         .map_err(unissued)?;
-    for i in 1..STEPS.len() {
-        let out = if i + 1 < STEPS.len() { DOWN } else { 0 };
+    for i in 1..ASES.len() {
+        let out = if i + 1 < ASES.len() { DOWN } else { 0 };
         last = store
             .extend(topo, last, out, EXPIRY, NOW)
             .map_err(unissued)?;
@@ -189,11 +149,11 @@ pub(crate) fn packet(
         level,
         current: 0,
         src: HostId {
-            asn: STEPS[0].asn,
+            asn: ASES[0],
             host: 1,
         },
         dst: HostId {
-            asn: STEPS[7].asn,
+            asn: ASES[7],
             host: 2,
         },
         ts: NOW,
@@ -205,19 +165,4 @@ pub(crate) fn packet(
         return Err(End::NoPacket);
     }
     encode(alloc, &packet).map_err(|_| End::OutOfMemory)
-}
-
-impl Way {
-    /// The chain, and a packet over the hops that its ASes issue.
-    pub(crate) fn new(alloc: Global) -> Result<Way, End>
-        ensures { IfErr result MakesNothing }
-    {
-        let topo = chain(alloc)?;
-        if !has_all(&topo) {
-            return Err(End::NoPacket);
-        }
-        let segment = segment(alloc, &topo)?;
-        let packet = packet(alloc, &segment, Level::L0, &[])?;
-        Ok(Way { topo, packet })
-    }
 }

@@ -42,7 +42,6 @@ fn work(word: &str) -> Option<Work>
         "aes" => Some(Work::Aes),
         "cmac" => Some(Work::Cmac),
         "short" => Some(Work::Short),
-        "turn" => Some(Work::Turn),
         "turn0" => Some(Work::Routed(Level::L0)),
         "turn1" => Some(Work::Routed(Level::L1)),
         "turn2" => Some(Work::Routed(Level::L2)),

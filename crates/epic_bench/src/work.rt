@@ -14,8 +14,6 @@ use crate::offers::offer_rounds;
 use crate::routed::Routed;
 use crate::sends::Sends;
 use crate::top::End;
-use crate::turns::turn_rounds;
-use crate::way::Way;
 use epic_aes::Aes;
 use epic_cmac::cmac;
 use epic_num::Level;
@@ -30,8 +28,6 @@ pub(crate) enum Work {
     Cmac,
     /// Tags of 27 bytes, each under a key of its own.
     Short,
-    /// Turns of the eight routers on the way of a packet of level 0.
-    Turn,
     /// Turns of one router, of a packet of a level each.
     Routed(Level),
     /// Arrivals at one host, of a packet of level 3 each.
@@ -65,7 +61,6 @@ impl Work {
             Work::Aes => "aes",
             Work::Cmac => "cmac",
             Work::Short => "short",
-            Work::Turn => "turn",
             Work::Routed(Level::L0) => "turn0",
             Work::Routed(Level::L1) => "turn1",
             Work::Routed(Level::L2) => "turn2",
@@ -85,7 +80,7 @@ impl Work {
         match self {
             Work::Aes => "blocks",
             Work::Cmac | Work::Short => "messages",
-            Work::Turn | Work::Routed(_) => "turns",
+            Work::Routed(_) => "turns",
             Work::Arrived => "arrivals",
             Work::Sends => "sends",
             Work::Window(_) => "offers",
@@ -100,7 +95,6 @@ impl Work {
             Work::Aes => 64,
             Work::Cmac | Work::Short | Work::Routed(_) => 1,
             Work::Arrived | Work::Sends | Work::Window(_) => 1,
-            Work::Turn => 8,
         };
         each * u64::from(rounds)
     }
@@ -170,7 +164,6 @@ pub(crate) enum Task {
     Aes,
     Cmac,
     Short,
-    Turn(Way),
     Routed(Level, Routed),
     Arrived(Arrived),
     Sends(Sends),
@@ -187,7 +180,6 @@ impl Task {
             Work::Aes => Ok(Task::Aes),
             Work::Cmac => Ok(Task::Cmac),
             Work::Short => Ok(Task::Short),
-            Work::Turn => Ok(Task::Turn(Way::new(alloc)?)),
             Work::Routed(level) => Ok(Task::Routed(level, Routed::new(alloc, level, rounds)?)),
             Work::Arrived => Ok(Task::Arrived(Arrived::new(alloc, rounds)?)),
             Work::Sends => Ok(Task::Sends(Sends::new(alloc)?)),
@@ -204,7 +196,6 @@ impl Task {
             Task::Aes => Ok(aes_value(rounds)),
             Task::Cmac => Ok(cmac_value(rounds)),
             Task::Short => Ok(short_value(rounds)),
-            Task::Turn(way) => Ok(turn_rounds(&way.topo, &mut way.packet, rounds)),
             Task::Routed(_, routed) => routed.run(rounds),
             Task::Arrived(arrived) => arrived.run(rounds),
             Task::Sends(sends) => sends.run(alloc, rounds),
