@@ -1,6 +1,7 @@
 //! The lines of answers.
 
 ghost use Rattle.std.specs.Prelude.{[]};
+ghost use Rattle.epic_text.specs.Report.{IsToldAnswer};
 
 use super::*;
 use crate::samples::{CAME, LAST, LEAF, topology};
