@@ -1,300 +1,379 @@
--- The answers of steps can be told: the keys and tags that their lines show are of ASes of the topology.
-use Rattle.std.proofs.Common.{◌≡◌, ℕ, ◌+◌, ◌<◌, Bool, true, false, not, ltb, cond, suc, ◌-◌, List, [], ◌∷◌, ◌++◌, length, slice_index, Option, Some, None, Result, Ok, Err, IsTrue, find, slice_get, refl, sym, ap, arith}
-use Rattle.std.specs.Prelude.{option_map, option_and_then, unwrap_or}
-use Rattle.std.proofs.lemmas.List.Elements.{All-cons, All-nil, filter_map-append}
-use Rattle.epic_num.specs.Chains.{Issue, name_of}
-use Rattle.epic_num.specs.Levels.{is_tagged}
+-- The answers of steps can be told, and have few verdicts.
+use Rattle.std.proofs.Common.{◌≡◌, ℕ, ◌+◌, ◌*◌, ◌/◌, ◌^◌, ◌<◌, ◌≤◌, inl, inr, Bool, true, false, not, List, [], ◌∷◌, ◌++◌, length, Option, None, Some, Ok, Err, IsTrue, refl, ap, sym, subst, ◌∙◌, arith}
+use Rattle.std.specs.Prelude.{nat_lt, if◌then◌else◌, Result, option_map, ⊤}
+use Rattle.std.specs.Option.{option_map_or}
+use Rattle.std.proofs.lemmas.Bool.{cond_both, not-false}
+use Rattle.arrayvec.specs.ArrayVec.{ArrayVec}
 use Rattle.epic_num.specs.declared.answer.Answer.{Answer}
 use Rattle.epic_num.specs.declared.answer.Answer.TheVariants as answer
+use Rattle.epic_num.specs.declared.answer.Answer.TheVariants.{Fetched, Known, Paths, Revealed, Rolled, Sent as SentAnswer}
+use Rattle.epic_num.specs.declared.answer.Refusal.TheVariants.{UnknownAs, TooManyPaths, Full as FullRefusal, UnknownEmission}
 use Rattle.epic_num.specs.declared.beacon_error.BeaconError.{BeaconError}
-use Rattle.epic_num.specs.declared.answer.Refusal.{Refusal}
-use Rattle.epic_num.specs.declared.answer.Refusal.TheVariants.{UnknownAs, TooManyPaths}
-use Rattle.epic_num.specs.declared.passed.PassResult.TheVariants.{Full}
-use Rattle.epic_num.specs.declared.path_ref.PathRef.{PathRef}
-use Rattle.epic_ledger.specs.Facts.{as_issue}
-use Rattle.epic_ledger.specs.declared.event.Event.TheVariants as event
-use Rattle.epic_text.specs.Report.{bytes_in}
-use Rattle.epic_app.specs.StepLines.{issued_in, is_carried, ShowsBytes}
 use Rattle.epic_num.specs.declared.command.Command.{Command}
 use Rattle.epic_num.specs.declared.command.Command.TheVariants as command
 use Rattle.epic_num.specs.declared.hop.HopName.{HopName}
+use Rattle.epic_num.specs.declared.hop.Level.{Level}
+use Rattle.epic_num.specs.declared.key_name.Holder.{Holder}
 use Rattle.epic_num.specs.declared.name.AsId.{AsId}
-use Rattle.epic_num.specs.declared.turn.Turn.{Turn}
-use Rattle.epic_num.specs.declared.turn.Turn.TheVariants.{Forward, Deliver, Refused}
+use Rattle.epic_num.specs.declared.name.HostId.{HostId}
+use Rattle.epic_num.specs.declared.passed.Place.{Place}
+use Rattle.epic_num.specs.declared.passed.Place.TheVariants.{Router, Host}
+use Rattle.epic_num.specs.declared.path_error.PathError.{PathError}
+use Rattle.epic_num.specs.declared.path_ref.PathRef.{PathRef}
+use Rattle.epic_num.specs.declared.segment.Leg.{Leg}
+use Rattle.epic_num.specs.declared.segment.Segment.{Segment}
+use Rattle.epic_num.specs.declared.send_error.SendError.{SendError}
+use Rattle.epic_num.specs.Chains.{Issue, issue_at, name_of}
 use Rattle.epic_num.proofs.ChainLaws.{issue_at-next}
-use Rattle.epic_layout.specs.Contents.{Contents, hop_count}
-use Rattle.epic_layout.specs.Layout.{parse}
-use Rattle.epic_layout.specs.Route.{place, is_first}
+use Rattle.epic_layout.specs.Contents.{Contents, IsBytes}
+use Rattle.epic_layout.specs.Reading.{IsRead}
+use Rattle.epic_layout.specs.Spelling.{spelling}
+use Rattle.epic_layout.proofs.OneSpelling.{bytes_are_read}
+use Rattle.epic_topo.specs.Lawful.{IsTopology}
 use Rattle.epic_topo.specs.Network.{Network, has}
-use Rattle.epic_fields.specs.Issues.{IssuesKept}
+use Rattle.epic_keys.specs.Fetches.{is_known}
 use Rattle.epic_beacon.specs.declared.beacon.Beacon.{Beacon}
 use Rattle.epic_beacon.specs.Issuing.{originated, extended}
+use Rattle.epic_beacon.specs.Laws.{IsIssued}
 use Rattle.epic_beacon.specs.Segments.{segments}
 use Rattle.epic_beacon.specs.Told.{beacons_in}
-use Rattle.epic_fields.specs.HopChecks.{hop_name}
-use Rattle.epic_fields.specs.PacketTags.{field_name}
+use Rattle.epic_path.specs.Joins.{joined}
 use Rattle.epic_path.specs.Routes.{all_lawful}
-use Rattle.epic_router.specs.Accepted.{IsRightTurn}
-use Rattle.epic_router.specs.Turns.{turn_of}
-use Rattle.epic_router.proofs.AcceptedLaws.{turns_are_right}
-use Rattle.epic_ledger.specs.Facts.{Facts, Pass, facts_of, issues_in, pass_name}
-use Rattle.epic_ledger.specs.Queries.{chain_pass, is_on_path}
-use Rattle.epic_ledger.specs.declared.event.Event.{Event}
-use Rattle.epic_audit.specs.Clauses.{higher, lower}
-use Rattle.epic_audit.specs.ForgedText.{has_form, fits_level}
-use Rattle.epic_audit.specs.Kept.{Kept, PassesKept}
-use Rattle.epic_audit.specs.Verdicts.{hop_lines, hop_verdict, broken, broken_between, broken_chain, parent_name}
-use Rattle.epic_keys.specs.Fetches.{is_known}
-use Rattle.epic_keys.specs.Keys.{owner}
-use Rattle.epic_text.specs.Report.{IsToldAnswer, Shows, issued_name}
-use Rattle.epic_num.specs.Chains.{no_name}
-use Rattle.epic_text.specs.VerdictText.{IsTellable}
-use Rattle.epic_world.specs.State.{State, store_in, rolls, is_fetched_in}
-use Rattle.epic_world.specs.Stepped.{answered, refused, recorded}
-use Rattle.epic_world.specs.Turning.{passed, turned_at, turned_by, accepted_at}
-use Rattle.epic_world.specs.Next.{next, next_at, next_originate, next_extend, next_fetch, next_paths, next_turn, issued, most_paths, is_taken}
+use Rattle.epic_ends.specs.Sending.{sent_packet}
+use Rattle.epic_ledger.specs.History.{Emission, emission_at, emitted}
+use Rattle.epic_ledger.specs.Facts.{as_issue, facts_of, issues_in, reveals_in}
+use Rattle.epic_ledger.specs.declared.event.Event.TheVariants as event
+use Rattle.epic_audit.specs.Reveals.{is_revealed}
+use Rattle.epic_audit.proofs.Lists.{one_more}
+use Rattle.epic_model.specs.Keeping.{IsDue, store_in, sent_at}
+use Rattle.epic_model.specs.Passing.{most_emitted, rolls, pass_at}
+use Rattle.epic_model.specs.State.{State, is_fetched_in}
+use Rattle.epic_model.specs.Steps.{next, next_at, issued, next_originate, next_extend, next_fetch, most_paths, found, next_paths, segments_of, emitted_by, sent_by, admission, over_path, over_segments, next_send, passing, next_turn, next_arrive, next_pass, carrying, next_carry, as_of, next_reveal, next_roll}
+use Rattle.epic_model.specs.Traces.{shown, Stepped, answered, refused, recorded}
+use Rattle.epic_model.specs.World.{Fits, IsWorld}
+use Rattle.epic_model.proofs.Stepping.{later}
+use Rattle.epic_model.proofs.InvIssued.{inv_issues}
+use Rattle.epic_model.proofs.InvKept.{there_fits}
+use Rattle.epic_text.specs.Report.{IsKnownHop, IsToldAnswer, emission_bytes, bytes_in}
+use Rattle.epic_app.specs.RunReport.{verdicts_in}
+use Rattle.epic_app.proofs.ToldPasses.{verdicts_of, shown_told, passed_told, passed_stays, bytes_stay, all_carried_told, few_carried}
 
--- ---- verdicts
+-- ---- what is kept
 
--- what is found stands in the list
-found_there : {X : Type 0} (p : X → Bool) (xs : List X) (x : X) → find p xs ≡ Some x → (n : ℕ) × (slice_get xs n ≡ Some x)
-found_there p [] x h = absurd (cc)
-found_there p (y ∷ ys) x h =
-    elim (p y) as (λ b. cond b (Some y) (find p ys) ≡ Some x → (n : ℕ) × (slice_get (y ∷ ys) n ≡ Some x)) [
-      | true ↦ λ s. (0, s)
-      | false ↦ λ s. let (n, there) = found_there p ys x s in (suc n, there)
-    ] h
+-- how many verdicts an answer has at most: two of each passage
+abbrev pub most_verdicts : ℕ
+most_verdicts = 66
 
-lower_known : (t : Network) (w x : HopName) → IsTrue (has t w.asn) → IsTrue (has t x.asn) → IsTrue (has t (lower w x).asn)
-unfolding lower
-lower_known t w x known here = cond_known (ltb w.body.pos x.body.pos)
-  where
-    cond_known : (b : Bool) → IsTrue (has t (cond b w x).asn)
-    cond_known true = known
-    cond_known false = here
+few_passed : {n : ℕ} → n ≤ 2 → n ≤ most_verdicts
+few_passed few = omega (arith, few)
 
-broken_left : (issues : List Issue) (z : HopName) (o : Option ℕ) (b : Bool) (pair : HopName × HopName) → broken issues z o b ≡ Some pair → pair.0 ≡ z
-broken_left issues z None b pair h = absurd (cc)
-broken_left issues z (Some n) true pair h = absurd (cc)
-broken_left issues z (Some n) false pair h =
-    let same : pair ≡ (z, parent_name issues n) = cc in ap (λ (q : HopName × HopName). q.0) same
+few_all : {n k : ℕ} → n ≤ 2 * k → k ≤ 33 → n ≤ most_verdicts
+few_all few many = omega (arith, few, many)
 
--- the left one of the two at which a chain breaks is of an AS of the topology
-pair_known : (t : Network) (f : Facts) (x : HopName) (p : Contents) (j : ℕ) → PassesKept t f.passes → IsTrue (has t x.asn)
-    → (pair : HopName × HopName) → broken_chain f x p j ≡ Some pair → IsTrue (has t pair.0.asn)
-unfolding broken_chain broken_between chain_pass pass_name
-pair_known t f x p j kept here pair h = by (is_first (place p.route.segments j)) (chain_pass f.passes p.route (j - 1)) refl h
-  where
-    by : (b : Bool) (o : Option Pass) → chain_pass f.passes p.route (j - 1) ≡ o
-        → cond b None (option_and_then (λ w. broken_between f.issues (higher (pass_name w) x) (lower (pass_name w) x)) o) ≡ Some pair
-        → IsTrue (has t pair.0.asn)
-    by true o e s = absurd (cc)
-    by false None e s = absurd (cc)
-    by false (Some w) e s =
-        let (n, there) = found_there (is_on_path p.route (j - 1)) f.passes w e in
-        let left : pair.0 ≡ lower (pass_name w) x = broken_left f.issues (lower (pass_name w) x) _ _ pair s in
-        rw left (lower_known t (pass_name w) x (kept n w there).known here)
+-- there are no more
+abbrev AreFew : Answer → Type 0
+AreFew (answer.Passed passed) = length passed.verdicts.items ≤ most_verdicts
+AreFew (answer.Carried passes) = length (verdicts_of passes) ≤ most_verdicts
+AreFew answer.Moment = ⊤
+AreFew (answer.Issued number) = ⊤
+AreFew answer.Fetched = ⊤
+AreFew answer.Known = ⊤
+AreFew (answer.Paths paths) = ⊤
+AreFew (answer.Sent emission ts) = ⊤
+AreFew answer.Revealed = ⊤
+AreFew (answer.Rolled generation) = ⊤
+AreFew (answer.Refused refusal) = ⊤
 
--- a line of the table can be told, where what it tells of is of the topology
-lines_told : (t : Network) (p : Contents) (x : HopName) (j : ℕ) → j < hop_count p → IsTrue (has t x.asn)
-    → (issue step : Option ℕ) (twin : Option HopName) (pair : Option (HopName × HopName)) (tagged : Bool) (send opened : Option ℕ) (other : Option HopName)
-    → is_tagged p.first ≡ tagged → ((q : HopName × HopName) → pair ≡ Some q → IsTrue (has t q.0.asn))
-    → IsTellable t p (hop_lines x j (field_name t x.asn p) issue step twin pair tagged send opened other)
-unfolding has_form fits_level owner field_name
-lines_told t p x j within here None (Some step) twin pair tagged send opened other is known = tt
-lines_told t p x j within here None None (Some twin) pair tagged send opened other is known = here
-lines_told t p x j within here None None None pair tagged send opened other is known = record { hop = within; form = refl; owner_there = here; level = refl }
-lines_told t p x j within here (Some issue) step twin (Some pair) tagged send opened other is known = known pair refl
-lines_told t p x j within here (Some issue) step twin None false send opened other is known = tt
-lines_told t p x j within here (Some issue) step twin None true (Some send) opened other is known = tt
-lines_told t p x j within here (Some issue) step twin None true None (Some opened) other is known = tt
-lines_told t p x j within here (Some issue) step twin None true None None (Some other) is known = here
-lines_told t p x j within here (Some issue) step twin None true None None None is known = record { hop = within; form = refl; owner_there = here; level = is }
-
-pub verdict_told : (t : Network) (f : Facts) (x : HopName) (p : Contents) (j : ℕ) → Kept t f → j < hop_count p → IsTrue (has t x.asn)
-    → IsTellable t p (hop_verdict t f x p j)
-verdict_told t f x p j kept within here =
-    lines_told t p x j within here _ _ _ (broken_chain f x p j) (is_tagged p.first) _ _ _ refl (pair_known t f x p j kept.passes here)
-
--- ---- turns
-
-turned_told : (t : Network) (s : State) (a : AsId) (iface : ℕ) (bytes : List ℕ) (candidates : List ℕ) (turn : Turn) → IsTrue (has t a)
-    → Kept t (facts_of s.history) → IsRightTurn t a candidates iface s.moment bytes turn
-    → IsToldAnswer t None bytes (turned_by t s a iface bytes turn).answer
-unfolding turned_by accepted_at hop_name
-turned_told t s a iface bytes candidates (Forward out hops generations) here kept (accepted, forwarded) = record {
-  packet = λ _. accepted.faultless;
-  verdicts =
-      let p = parse bytes in
-      let x = hop_name a (slice_index generations 0) p p.current in
-      All-cons (IsTellable t p) (hop_verdict t (facts_of s.history) x p p.current) [] (verdict_told t (facts_of s.history) x p p.current kept accepted.there here)
-      (All-nil (IsTellable t p));
-}
-turned_told t s a iface bytes candidates (Deliver host hops generations) here kept (accepted, delivered) = record {
-  packet = λ _. accepted.faultless;
-  verdicts =
-      let p = parse bytes in
-      let x = hop_name a (slice_index generations 0) p p.current in
-      All-cons (IsTellable t p) (hop_verdict t (facts_of s.history) x p p.current) [] (verdict_told t (facts_of s.history) x p p.current kept accepted.there here)
-      (All-nil (IsTellable t p));
-}
-turned_told t s a iface bytes candidates (Refused check hop) here kept right = record {
-  packet = λ some. absurd (omega (arith, some));
-  verdicts = All-nil (IsTellable t (parse bytes));
-}
-
-at_told : (t : Network) (s : State) (a : AsId) (iface : ℕ) (bytes : List ℕ) (full : Bool) → IsTrue (has t a) → Kept t (facts_of s.history)
-    → IsToldAnswer t None bytes
-    (cond full (answered s (passed a iface Full 0 [])) (turned_by t s a iface bytes (turn_of t a (rolls s.history.events a ∷ []) iface s.moment bytes))).answer
-at_told t s a iface bytes true here kept = record {
-  packet = λ some. absurd (omega (arith, some));
-  verdicts = All-nil (IsTellable t (parse bytes));
-}
-at_told t s a iface bytes false here kept =
-    turned_told t s a iface bytes (rolls s.history.events a ∷ []) _ here kept
-    (turns_are_right t a (rolls s.history.events a ∷ []) iface s.moment bytes)
-
-turn_told : (t : Network) (s : State) (a : AsId) (iface : ℕ) (bytes : List ℕ) (known : Bool) → has t a ≡ known → Kept t (facts_of s.history)
-    → IsToldAnswer t None bytes (cond (not known) (refused s (UnknownAs a)) (turned_at t s a iface bytes)).answer
-unfolding turned_at
-turn_told t s a iface bytes false is kept = tt
-turn_told t s a iface bytes true is kept = at_told t s a iface bytes _ is kept
+-- the answer of a step can be told, where these bytes came, and has few verdicts
+abbrev IsTold : Network → List ℕ → Stepped → Type 0
+IsTold t came n = IsToldAnswer t n.state.history came n.answer × AreFew n.answer
 
 -- ---- issues
 
--- the name of the hop that an answer tells of
-issued_is : (issues : List Issue) (i : Issue) → name_of (issues ++ i ∷ []) (length issues + 1) ≡ Some i.name
-unfolding name_of
-issued_is issues i = ap (option_map (λ (k : Issue). k.name)) (issue_at-next issues i)
+known_hop : (t : Network) (o : Option HopName) (x : HopName) → o ≡ Some x → IsTrue (has t x.asn)
+    → IsKnownHop t o
+known_hop t o x is here = subst (IsKnownHop t) (sym is) here
 
-named_told : (t : Network) (came : List ℕ) (number : ℕ) (o : Option HopName) (x : HopName) → o ≡ Some x → IsTrue (has t x.asn)
-    → IsToldAnswer t o came (answer.Issued number)
-named_told t came number o x is here = rw is here
-
-one_more_issue : (events : List Event) (step number parent : ℕ) (x : HopName)
-    → issues_in (events ++ event.Issue step number x parent ∷ []) ≡ issues_in events ++ record { name = x; parent = parent } ∷ []
-unfolding as_issue
-one_more_issue events step number parent x = filter_map-append as_issue events (event.Issue step number x parent ∷ [])
-
-issue_told : (t : Network) (s : State) (r : Result Beacon BeaconError) (came : List ℕ) → IssuesKept t (issues_in (issued s r).state.history.events)
-    → IsToldAnswer t (issued_in (issues_in (issued s r).state.history.events) (issued s r).answer) came (issued s r).answer
-unfolding issued_in
-issue_told t s (Ok b) came kept =
+issued_told : (t : Network) (s : State) (came : List ℕ) (out exp : ℕ)
+    (told : Result Beacon BeaconError) → IsTopology t → out < 2 ^ 16 → exp < 2 ^ 8 → IsWorld t s
+    → ((b : Beacon) → told ≡ Ok b → IsIssued t (store_in t s.history) out exp s.moment b)
+    → IsTold t came (issued s told)
+unfolding as_issue facts_of name_of
+issued_told t s came out exp (Ok b) topology out_fits exp_fits w is =
     let issues = issues_in s.history.events in
+    let number = length issues + 1 in
+    let e = event.Issue (s.steps + 1) number b.name b.parent in
     let i : Issue = record { name = b.name; parent = b.parent } in
-    let more = one_more_issue s.history.events (s.steps + 1) (length issues + 1) b.parent b.name in
-    let known = (kept (length issues + 1) i (rw more (issue_at-next issues i))).known in
-    named_told t came (length issues + 1) _ b.name (rw more (issued_is issues i)) known
-issue_told t s (Err e) came kept = tt
+    let small : s.moment / 1000000 < 2 ^ 32 = (let most = w.moment_fits in omega (arith, most)) in
+    let inv = inv_issues t s.history s.moment
+    (s.steps + 1) out exp b topology out_fits exp_fits small (is b refl) (later t s w) in
+    let more : issues_in (s.history.events ++ e ∷ []) ≡ issues ++ i ∷ []
+    = one_more as_issue s.history.events e i refl in
+    let there : issue_at (issues_in (s.history.events ++ e ∷ [])) number ≡ Some i = ap
+    (λ l. issue_at l number) more ∙ issue_at-next issues i in (
+      known_hop t (name_of (issues_in (s.history.events ++ e ∷ [])) number) b.name
+          (ap (option_map (λ (k : Issue). k.name)) there)
+          (inv.sound.kept.issues number i there).known,
+      tt,
+    )
+issued_told t s came out exp (Err e) topology out_fits exp_fits w is = (tt, tt)
 
-issued_told : (t : Network) (s : State) (b : Bool) (refusal : Refusal) (r : Result Beacon BeaconError) (came : List ℕ)
-    → IssuesKept t (issues_in (cond b (refused s refusal) (issued s r)).state.history.events)
-    → IsToldAnswer t (issued_in (issues_in (cond b (refused s refusal) (issued s r)).state.history.events) (cond b (refused s refusal) (issued s r)).answer)
-    came (cond b (refused s refusal) (issued s r)).answer
-unfolding issued_in
-issued_told t s true refusal r came kept = tt
-issued_told t s false refusal r came kept = issue_told t s r came kept
+originate_told : (t : Network) (s : State) (came : List ℕ) (a : AsId) (out exp : ℕ) → IsTopology t
+    → (out < 2 ^ 16) × (exp < 2 ^ 8) → IsWorld t s
+    → IsTold t came (next_originate t s a out exp)
+unfolding next_originate
+originate_told t s came a out exp topology fits w =
+    cond_both (not (has t a)) (refused s (UnknownAs a))
+    (issued s (originated t (store_in t s.history) a out exp s.moment)) (IsTold t came)
+    (λ _. (tt, tt))
+    (λ _. issued_told t s came out exp
+    (originated t (store_in t s.history) a out exp s.moment) topology fits.0 fits.1 w
+    (λ b e. inl (a, e)))
 
--- ---- keys and paths
+extend_told : (t : Network) (s : State) (came : List ℕ) (parent out exp : ℕ) → IsTopology t
+    → (out < 2 ^ 16) × (exp < 2 ^ 8) → IsWorld t s
+    → IsTold t came (next_extend t s parent out exp)
+unfolding next_extend
+extend_told t s came parent out exp topology fits w =
+    issued_told t s came out exp
+    (extended t (store_in t s.history) parent out exp s.moment) topology fits.0 fits.1 w
+    (λ b e. inr (parent, e))
 
-fetched_told : (t : Network) (s : State) (issues : List Issue) (came : List ℕ) (b c d : Bool) (first second : Refusal) (e : Event)
-    → IsToldAnswer t
-    (issued_in issues (cond b (refused s first) (cond c (refused s second) (cond d (answered s answer.Known) (recorded s e answer.Fetched)))).answer)
-    came
-    (cond b (refused s first) (cond c (refused s second) (cond d (answered s answer.Known) (recorded s e answer.Fetched)))).answer
-unfolding issued_in
-fetched_told t s issues came true c d first second e = tt
-fetched_told t s issues came false true d first second e = tt
-fetched_told t s issues came false false true first second e = tt
-fetched_told t s issues came false false false first second e = tt
+-- ---- steps that show no tag
 
-found_told : (t : Network) (s : State) (issues : List Issue) (came : List ℕ) (b c d : Bool) (first second third : Refusal) (paths : List PathRef)
-    → IsToldAnswer t
-    (issued_in issues (cond b (refused s first) (cond c (refused s second) (cond d (refused s third) (answered s (answer.Paths paths))))).answer)
-    came
-    (cond b (refused s first) (cond c (refused s second) (cond d (refused s third) (answered s (answer.Paths paths))))).answer
-unfolding issued_in
-found_told t s issues came true c d first second third paths = tt
-found_told t s issues came false true d first second third paths = tt
-found_told t s issues came false false true first second third paths = tt
-found_told t s issues came false false false first second third paths = tt
+at_told : (t : Network) (s : State) (came : List ℕ) (moment : ℕ) → IsTold t came (next_at s moment)
+unfolding next_at
+at_told t s came moment = (tt, tt)
 
--- no turn issues a hop
-turned_none : (t : Network) (s : State) (issues : List Issue) (a : AsId) (iface : ℕ) (bytes : List ℕ) (turn : Turn)
-    → issued_in issues (turned_by t s a iface bytes turn).answer ≡ None
-unfolding issued_in turned_by accepted_at
-turned_none t s issues a iface bytes (Forward out hops generations) = refl
-turned_none t s issues a iface bytes (Deliver host hops generations) = refl
-turned_none t s issues a iface bytes (Refused check hop) = refl
+fetch_told : (t : Network) (s : State) (came : List ℕ) (source owner : AsId) (epoch : ℕ)
+    → IsTold t came (next_fetch t s source owner epoch)
+unfolding next_fetch
+fetch_told t s came source owner epoch =
+    by (has t source) (has t owner)
+    (is_known (is_fetched_in s.history.events)
+    (record { source = source; owner = owner; epoch = epoch }))
+  where
+    by : (a b c : Bool)
+        → IsTold t came (if not a then refused s (UnknownAs source)
+        else if not b then refused s (UnknownAs owner)
+        else if c then answered s Known
+        else recorded s (event.Fetch (s.steps + 1) source owner epoch) Fetched)
+    by false b c = (tt, tt)
+    by true false c = (tt, tt)
+    by true true true = (tt, tt)
+    by true true false = (tt, tt)
 
-turn_none : (t : Network) (s : State) (issues : List Issue) (a : AsId) (iface : ℕ) (bytes : List ℕ) (b c : Bool) (turn : Turn)
-    → issued_in issues (cond b (refused s (UnknownAs a)) (cond c (answered s (passed a iface Full 0 [])) (turned_by t s a iface bytes turn))).answer ≡ None
-unfolding issued_in
-turn_none t s issues a iface bytes true c turn = refl
-turn_none t s issues a iface bytes false true turn = refl
-turn_none t s issues a iface bytes false false turn = turned_none t s issues a iface bytes turn
+paths_told : (t : Network) (s : State) (came : List ℕ) (from to : AsId)
+    → IsTold t came (next_paths t s from to)
+unfolding next_paths
+paths_told t s came from to = by (has t from) (has t to)
+    (all_lawful (segments (beacons_in t (issues_in s.history.events))) from to)
+  where
+    by : (a b : Bool) (paths : List PathRef)
+        → IsTold t came
+        (if not a then refused s (UnknownAs from) else if not b then refused s
+        (UnknownAs to) else found s paths)
+    by false b paths = (tt, tt)
+    by true false paths = (tt, tt)
+    by true true paths =
+        cond_both (nat_lt most_paths (length paths)) (refused s TooManyPaths)
+        (answered s (Paths paths)) (IsTold t came) (λ _. (tt, tt)) (λ _. (tt, tt))
 
-next_turn_none : (t : Network) (s : State) (issues : List Issue) (a : AsId) (iface : ℕ) (bytes : List ℕ) → issued_in issues (next_turn t s a iface bytes).answer ≡ None
-unfolding next_turn turned_at
-next_turn_none t s issues a iface bytes = turn_none t s issues a iface bytes (not (has t a)) _ _
+reveal_told : (t : Network) (s : State) (came : List ℕ) (holder : Holder)
+    → IsTold t came (next_reveal t s holder)
+unfolding next_reveal
+reveal_told t s came holder = by (has t (as_of holder))
+    (is_revealed (reveals_in s.history.events) holder)
+  where
+    by : (a b : Bool)
+        → IsTold t came (if not a then refused s (UnknownAs (as_of holder))
+        else if b then answered s Known
+        else recorded s (event.Reveal (s.steps + 1) holder) Revealed)
+    by false b = (tt, tt)
+    by true true = (tt, tt)
+    by true false = (tt, tt)
 
-next_turn_told : (t : Network) (s : State) (issues : List Issue) (a : AsId) (iface : ℕ) (bytes : List ℕ) → Kept t (facts_of s.history)
-    → IsToldAnswer t (issued_in issues (next_turn t s a iface bytes).answer) bytes (next_turn t s a iface bytes).answer
+roll_told : (t : Network) (s : State) (came : List ℕ) (a : AsId) → IsTold t came (next_roll t s a)
+unfolding next_roll
+roll_told t s came a =
+    let generation = rolls s.history.events a + 1 in
+    cond_both (not (has t a)) (refused s (UnknownAs a))
+    (recorded s (event.Roll (s.steps + 1) a generation) (Rolled generation)) (IsTold t came)
+    (λ _. (tt, tt)) (λ _. (tt, tt))
+
+emitted_told : (t : Network) (s : State) (came : List ℕ) (numbers : ArrayVec ℕ) (p : Contents)
+    → IsTold t came (emitted_by s numbers p)
+unfolding emitted_by
+emitted_told t s came numbers p =
+    cond_both (nat_lt most_emitted (emitted s.history.emissions + length (spelling p)))
+    (refused s FullRefusal)
+    (record {
+      answer = SentAnswer
+          (length s.history.emissions + 1) p.ts;
+      state
+          = record s {
+            steps = s.steps + 1;
+            history = sent_at
+                (s.steps + 1) s.history numbers p;
+          };
+      passages = [];
+    })
+    (IsTold t came)
+    (λ _. (tt, tt)) (λ _. (tt, tt))
+
+module _ (t : Network) (s : State) (came : List ℕ) (version : ℕ) (level : Level) (src dst : HostId)
+    (numbers : ArrayVec ℕ) (payload : List ℕ) where
+  sent_told : (legs : List Leg) (told : Result ℕ SendError)
+      → IsTold t came (sent_by t s version level src dst numbers payload legs told)
+  sent_told legs (Ok ts) = emitted_told t s came numbers
+      (sent_packet t legs version level src dst ts payload)
+  sent_told legs (Err e) = (tt, tt)
+
+  over_path_told : (told : Result (List Leg) PathError)
+      → IsTold t came (over_path t s version level src dst numbers payload told)
+  over_path_told (Ok legs) = sent_told legs (admission t s version level src dst payload legs)
+  over_path_told (Err e) = (tt, tt)
+
+  over_segments_told : (told : Result (List Segment) ℕ)
+      → IsTold t came (over_segments t s version level src dst numbers payload told)
+  over_segments_told (Ok segments) = over_path_told (joined src.asn segments)
+  over_segments_told (Err n) = (tt, tt)
+
+  send_told : IsTold t came (next_send t s version level src dst numbers payload)
+  unfolding next_send
+  send_told = by (has t src.asn) (has t dst.asn)
+    where
+      by : (a b : Bool)
+          → IsTold t came (if not a then refused s (UnknownAs src.asn)
+          else if not b then refused s (UnknownAs dst.asn)
+          else over_segments t s version level src dst numbers payload
+          (segments_of (beacons_in t (issues_in s.history.events)) numbers.items))
+      by false b = (tt, tt)
+      by true false = (tt, tt)
+      by true true = over_segments_told
+          (segments_of (beacons_in t (issues_in s.history.events)) numbers.items)
+
+-- ---- passages
+
+passing_told : (t : Network) (s : State) (place : Place) (bytes : List ℕ) → IsDue t place
+    → IsRead bytes → IsWorld t s
+    → IsTold t bytes (passing t s place bytes)
+unfolding passing shown
+passing_told t s place bytes due read w =
+    let d = pass_at t (s.steps + 1) s.moment s.history place bytes in
+    let told = passed_told t (s.steps + 1) s.moment s.history place bytes due read
+    (later t s w).sound in (
+      shown_told t
+          (record { before = s.history; place = place; came = bytes; happened = d }) told,
+      few_passed told.few,
+    )
+
+turn_step_told : (t : Network) (s : State) (a : AsId) (iface : ℕ) (bytes : List ℕ) → IsBytes bytes
+    → IsWorld t s → IsTold t bytes (next_turn t s a iface bytes)
 unfolding next_turn
-next_turn_told t s issues a iface bytes kept = rw (next_turn_none t s issues a iface bytes) (turn_told t s a iface bytes (has t a) refl kept)
+turn_step_told t s a iface bytes are w =
+    cond_both (not (has t a)) (refused s (UnknownAs a)) (passing t s (Router a iface) bytes)
+    (IsTold t bytes)
+    (λ _. (tt, tt))
+    (λ known. passing_told t s (Router a iface) bytes (not-false (has t a) known)
+    (bytes_are_read bytes are) w)
+
+arrive_step_told : (t : Network) (s : State) (d : HostId) (bytes : List ℕ) → IsBytes bytes
+    → IsWorld t s → IsTold t bytes (next_arrive t s d bytes)
+unfolding next_arrive
+arrive_step_told t s d bytes are w =
+    cond_both (not (has t d.asn)) (refused s (UnknownAs d.asn)) (passing t s (Host d) bytes)
+    (IsTold t bytes)
+    (λ _. (tt, tt))
+    (λ known. passing_told t s (Host d) bytes (not-false (has t d.asn) known)
+    (bytes_are_read bytes are) w)
+
+-- where the bytes of an emission came, those that it has after the step
+abbrev IsToldOf : Network → ℕ → Stepped → Type 0
+IsToldOf t number n = IsTold t (emission_bytes n.state.history.emissions number) n
+
+passing_of : (t : Network) (s : State) (number : ℕ) (x : Emission)
+    → emission_at s.history.emissions number ≡ Some x → IsWorld t s
+    → IsToldOf t number (passing t s x.place x.bytes)
+unfolding passing
+passing_of t s number x there w =
+    let fits = there_fits t s.history number x w.inv.sound.lawful.packets w.inv.places there in
+    let stays = passed_stays t (s.steps + 1) s.moment s.history x.place x.bytes fits.1 in
+    subst (λ came. IsTold t came (passing t s x.place x.bytes))
+    (sym (bytes_stay s.history.emissions _ number x stays there))
+    (passing_told t s x.place x.bytes fits.0 fits.1 w)
+
+pass_step_told : (t : Network) (s : State) (number : ℕ) → IsWorld t s
+    → IsToldOf t number (next_pass t s number)
+unfolding next_pass
+pass_step_told t s number w = by (emission_at s.history.emissions number) refl
+  where
+    by : (o : Option Emission) → emission_at s.history.emissions number ≡ o
+        → IsToldOf t number
+        (option_map_or (λ e. passing t s e.place e.bytes) o (refused s (UnknownEmission number)))
+    by None e = (tt, tt)
+    by (Some x) e = passing_of t s number x e w
+
+carry_step_told : (t : Network) (s : State) (number : ℕ) → IsTopology t → IsWorld t s
+    → IsToldOf t number (next_carry t s number)
+unfolding next_carry carrying
+carry_step_told t s number topology w = by (emission_at s.history.emissions number)
+  where
+    by : (o : Option Emission)
+        → IsToldOf t number
+        (option_map_or (λ e. carrying t s number) o (refused s (UnknownEmission number)))
+    by None = (tt, tt)
+    by (Some x) =
+        let told = all_carried_told t (s.steps + 1) s.moment 33 s.history number topology
+        (later t s w) in
+        let many = few_carried t (s.steps + 1) s.moment 33 s.history number in
+        (told.told, few_all told.few many)
 
 -- ---- all steps
 
-pub told : (t : Network) (s : State) (c : Command) (emissions : ℕ → List ℕ) → Kept t (facts_of s.history) → Kept t (facts_of (next t s c).state.history)
-    → is_taken c ≡ true
-    → IsToldAnswer t (issued_in (issues_in (next t s c).state.history.events) (next t s c).answer) (bytes_in emissions c) (next t s c).answer
-unfolding next next_at next_originate next_extend next_fetch next_paths is_taken bytes_in issued_in facts_of
-told t s (command.At moment) emissions before after taken = tt
-told t s (command.Originate a out exp) emissions before after taken = issued_told t s (not (has t a)) (UnknownAs a) (originated t (store_in t s.history.events) a out exp s.moment) [] after.issues
-told t s (command.Extend parent out exp) emissions before after taken = issue_told t s (extended t (store_in t s.history.events) parent out exp s.moment) [] after.issues
-told t s (command.Fetch source of epoch) emissions before after taken =
-    fetched_told t s (issues_in (next_fetch t s source of epoch).state.history.events) []
-    (not (has t source)) (not (has t of)) (is_known (is_fetched_in s.history.events) (record { source = source; owner = of; epoch = epoch }))
-    (UnknownAs source) (UnknownAs of) (event.Fetch (s.steps + 1) source of epoch)
-told t s (command.Paths from to) emissions before after taken =
-    let paths = all_lawful (segments (beacons_in t (issues_in s.history.events))) from to in
-    found_told t s (issues_in (next_paths t s from to).state.history.events) []
-    (not (has t from)) (not (has t to)) (ltb most_paths (length paths)) (UnknownAs from) (UnknownAs to) TooManyPaths paths
-told t s (command.Turn a iface bytes) emissions before after taken = next_turn_told t s (issues_in (next_turn t s a iface bytes).state.history.events) a iface bytes before
-told t s (command.Send version level src dst segments payload) emissions before after taken = absurd (cc)
-told t s (command.Arrive host bytes) emissions before after taken = absurd (cc)
-told t s (command.Pass emission) emissions before after taken = absurd (cc)
-told t s (command.Carry emission) emissions before after taken = absurd (cc)
-told t s (command.Reveal holder) emissions before after taken = absurd (cc)
-told t s (command.Roll a) emissions before after taken = absurd (cc)
+all_told : (t : Network) (s : State) (c : Command) → IsTopology t → Fits c → IsWorld t s
+    → (let n = next t s c in IsTold t (bytes_in (emission_bytes n.state.history.emissions) c) n)
+unfolding next bytes_in
+all_told t s (command.At moment) topology fits w = at_told t s [] moment
+all_told t s (command.Originate a out exp) topology fits w
+    = originate_told t s [] a out exp topology fits w
+all_told t s (command.Extend parent out exp) topology fits w
+    = extend_told t s [] parent out exp topology fits w
+all_told t s (command.Fetch source owner epoch) topology fits w
+    = fetch_told t s [] source owner epoch
+all_told t s (command.Paths from to) topology fits w = paths_told t s [] from to
+all_told t s (command.Send version level src dst segments payload) topology fits w
+    = send_told t s [] version level src dst segments payload
+all_told t s (command.Turn a iface bytes) topology fits w = turn_step_told t s a iface bytes fits w
+all_told t s (command.Arrive host bytes) topology fits w = arrive_step_told t s host bytes fits w
+all_told t s (command.Pass emission) topology fits w = pass_step_told t s emission w
+all_told t s (command.Carry emission) topology fits w = carry_step_told t s emission topology w
+all_told t s (command.Reveal holder) topology fits w = reveal_told t s [] holder
+all_told t s (command.Roll a) topology fits w = roll_told t s [] a
 
--- an answer that can be told is of one packet at most
-pub told_alone : (t : Network) (issued : Option HopName) (came : List ℕ) (a : Answer) → IsToldAnswer t issued came a → is_carried a ≡ false
-told_alone t issued came answer.Moment told = refl
-told_alone t issued came (answer.Issued number) told = refl
-told_alone t issued came answer.Fetched told = refl
-told_alone t issued came answer.Known told = refl
-told_alone t issued came (answer.Paths paths) told = refl
-told_alone t issued came (answer.Sent emission ts) told = refl
-told_alone t issued came (answer.Passed passed) told = refl
-told_alone t None came (answer.Carried passes) told = absurd told
-told_alone t (Some x) came (answer.Carried passes) told = absurd told
-told_alone t issued came answer.Revealed told = refl
-told_alone t issued came (answer.Rolled generation) told = refl
-told_alone t issued came (answer.Refused refusal) told = refl
+-- The lines of every answer can be printed, over the ledger after the step and the bytes that its
+-- command brought.
+pub answers_are_told : (t : Network) (s : State) (c : Command) → IsTopology t → Fits c → IsWorld t s
+    → (let n = next t s c in IsToldAnswer t n.state.history
+    (bytes_in (emission_bytes n.state.history.emissions) c) n.answer)
+answers_are_told t s c topology fits w = (all_told t s c topology fits w).0
 
--- what a step shows besides its answer
-pub shows : (issues : List Issue) (emissions : ℕ → List ℕ) (o : Option HopName) (emitted : List ℕ) (a : Answer) → o ≡ issued_in issues a
-    → ShowsBytes emissions emitted a → is_carried a ≡ false → Shows (issued_name issues) emissions o emitted a
-unfolding issued_name issued_in
-shows issues emissions o emitted answer.Moment is bytes alone = tt
-shows issues emissions o emitted (answer.Issued number) is bytes alone = ap (λ x. unwrap_or x no_name) (sym is)
-shows issues emissions o emitted answer.Fetched is bytes alone = tt
-shows issues emissions o emitted answer.Known is bytes alone = tt
-shows issues emissions o emitted (answer.Paths paths) is bytes alone = tt
-shows issues emissions o emitted (answer.Sent emission ts) is bytes alone = bytes
-shows issues emissions o emitted (answer.Passed passed) is bytes alone = bytes
-shows issues emissions o emitted (answer.Carried passes) is bytes alone = absurd (cc)
-shows issues emissions o emitted answer.Revealed is bytes alone = tt
-shows issues emissions o emitted (answer.Rolled generation) is bytes alone = tt
-shows issues emissions o emitted (answer.Refused refusal) is bytes alone = tt
+few_in : (a : Answer) → AreFew a → length (verdicts_in a) ≤ most_verdicts
+unfolding verdicts_in
+few_in answer.Moment few = omega arith
+few_in (answer.Issued number) few = omega arith
+few_in answer.Fetched few = omega arith
+few_in answer.Known few = omega arith
+few_in (answer.Paths paths) few = omega arith
+few_in (answer.Sent emission ts) few = omega arith
+few_in (answer.Passed passed) few = few
+few_in (answer.Carried passes) few = few
+few_in answer.Revealed few = omega arith
+few_in (answer.Rolled generation) few = omega arith
+few_in (answer.Refused refusal) few = omega arith
+
+-- an answer has few verdicts, so that they can be counted
+pub answers_are_few : (t : Network) (s : State) (c : Command) → IsTopology t → Fits c → IsWorld t s
+    → length (verdicts_in (next t s c).answer) ≤ most_verdicts
+answers_are_few t s c topology fits w = few_in (next t s c).answer
+    (all_told t s c topology fits w).1
