@@ -1,10 +1,12 @@
 mod Answering
 mod Carried
 mod CarryGrows
+mod Counted
 mod Gone
 mod Grown
 mod Issued
 mod Refined
+mod Runs
 mod Segmented
 mod Sent
 mod Way
