@@ -1,0 +1,6 @@
+pub mod Accounts
+pub mod Apart
+pub mod Kept
+pub mod Offers
+pub mod Queue
+pub mod Runs
