@@ -1,0 +1,38 @@
+-- What the answers of the calls mean.
+use Rattle.std.specs.Prelude.{◌≡◌, Option, Some, None, Result, Ok, Err, ⊤}
+use Rattle.std.specs.Option.{option_map}
+use Rattle.epic_words.specs.Request.{Request, Hop, Run, RunRequest}
+use Rattle.epic_words.specs.declared.hop.HopWords.{HopWords}
+use Rattle.epic_words.specs.declared.run.RunWords.{RunWords}
+use Rattle.epic_words.specs.declared.asked.Asked.{Asked}
+use Rattle.epic_words.specs.declared.asked.Asked.TheVariants as asked
+use Rattle.epic_words.specs.declared.error.WordsError.{WordsError}
+use Rattle.epic_words.specs.declared.error.WordsError.TheVariants.{Refused, OutOfMemory}
+
+-- the request of the words of `hop`
+abbrev pub hop_in : HopWords → Request
+hop_in w = Hop w.key w.file.now
+
+-- the names in the words of `run`
+abbrev pub names_in : RunWords → RunRequest
+names_in w = record {
+  topology = w.topology.now;
+  script = w.script.now;
+  capture = option_map (λ name. name.now) w.capture;
+  save = option_map (λ name. name.now) w.save;
+}
+
+-- the request of the words of `run`
+abbrev pub run_in : RunWords → Request
+run_in w = Run (names_in w)
+
+-- the request of the words of a command
+abbrev pub request_in : Asked → Request
+request_in (asked.Hop w) = hop_in w
+request_in (asked.Run w) = run_in w
+
+-- the words ask for what was answered, or they are no command, or memory ran out
+abbrev pub AsksFor : {W : Type 0} → (W → Request) → Option Request → Result W WordsError → Type 0
+AsksFor meaning request (Ok w) = request ≡ Some (meaning w)
+AsksFor meaning request (Err Refused) = request ≡ None
+AsksFor meaning request (Err OutOfMemory) = ⊤

@@ -1,0 +1,94 @@
+-- What the words of the command line ask for. A new command adds a case to each definition.
+use Rattle.std.specs.Prelude.{ℕ, if◌then◌else◌, ◌||◌, Bool, false, List, [], ◌∷◌, ◌++◌, Option}
+use Rattle.std.specs.Prelude.{Some, None, Result, Ok, Err, codes, bytes_eq, unwrap_or}
+use Rattle.std.specs.List.{list_any}
+use Rattle.std.specs.Option.{option_to_list}
+use Rattle.clap.specs.Words.{Row, first_of}
+use Rattle.hex.specs.Hex.{decode_sized}
+use Rattle.hex.specs.declared.error.FromHexError.{FromHexError}
+use Rattle.epic_words.specs.RunCommand.{is_refused, rows_in, run_command}
+
+-- the names of the files of `run`
+pub record RunRequest : Type 0 where
+  pub topology : List ℕ
+  pub script : List ℕ
+  -- the capture whose packets come after the script's commands
+  pub capture : Option (List ℕ)
+  -- the file to which each emission is saved
+  pub save : Option (List ℕ)
+
+pub data Request : Type 0 where
+  -- `hop KEY FILE`: the bytes of the key, the name of the file
+  Hop : (key name : List ℕ) → Request
+  -- `run TOPOLOGY SCRIPT` with its options
+  Run : (request : RunRequest) → Request
+
+-- ---- the files of a command
+
+-- the names of the files that are read, in the order of their first reads
+abbrev pub reads_of : Request → List (List ℕ)
+reads_of (Hop key name) = name ∷ []
+reads_of (Run r) = r.topology ∷ r.script ∷ option_to_list r.capture
+
+-- and of those that are written
+abbrev pub writes_of : Request → List (List ℕ)
+writes_of (Hop key name) = []
+writes_of (Run r) = option_to_list r.save
+
+-- a name that is written stands among those that are read, or twice among those that are written
+abbrev pub is_shared : List (List ℕ) → List (List ℕ) → Bool
+is_shared reads [] = false
+is_shared reads (name ∷ writes) =
+    list_any (λ other. bytes_eq name other) (reads ++ writes) || is_shared reads writes
+
+-- a file that the command writes has the name of another of its files
+abbrev pub shares_files : Request → Bool
+shares_files request = is_shared (reads_of request) (writes_of request)
+
+-- ---- the words
+
+abbrev pub hop_request : List ℕ → Result (List ℕ) FromHexError → Option Request
+hop_request name (Ok key) = Some (Hop key name)
+hop_request name (Err error) = None
+
+-- the words after `hop`: a key of 16 bytes in hexadecimal digits, and a name
+unfoldable pub hop_of : List (List ℕ) → Option Request
+hop_of (key ∷ name ∷ []) = hop_request name (decode_sized key 16)
+hop_of words = None
+
+-- the value of an argument that has to be there
+abbrev pub name_at : List ℕ → List Row → List ℕ
+name_at id rows = unwrap_or (first_of id rows) []
+
+-- the names that clap found
+abbrev pub run_request : List Row → RunRequest
+run_request rows = record {
+  topology = name_at (codes "topology") rows;
+  script = name_at (codes "script") rows;
+  capture = first_of (codes "capture") rows;
+  save = first_of (codes "save") rows;
+}
+
+-- the request, where no file that is written has the name of another
+abbrev pub unless_shared : RunRequest → Option Request
+unless_shared r = if shares_files (Run r) then None else Some (Run r)
+
+-- the words after `run`: those that clap takes, where no file that is written has the name of
+-- another
+unfoldable pub run_of : List (List ℕ) → Option Request
+run_of words =
+    if is_refused run_command words then None
+    else unless_shared (run_request (rows_in run_command words))
+
+-- what the words after the program's name ask for; none where they are no command
+unfoldable pub request_of : List (List ℕ) → Option Request
+request_of [] = None
+request_of (command ∷ words) =
+    if bytes_eq command (codes "hop") then hop_of words
+    else if bytes_eq command (codes "run") then run_of words
+    else None
+
+-- the first word is this one
+abbrev pub is_command : List ℕ → List (List ℕ) → Bool
+is_command word [] = false
+is_command word (command ∷ words) = bytes_eq command word

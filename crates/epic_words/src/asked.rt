@@ -1,0 +1,46 @@
+//! The words after the program's name.
+
+ghost use Rattle.std.specs.Prelude.{◌≡◌, codes, map, Err, IsTrue};
+ghost use Rattle.std.specs.String.{string_bytes};
+ghost use Rattle.epic_words.specs.Answers.{AsksFor, request_in};
+ghost use Rattle.epic_words.specs.Request.{is_command, request_of};
+
+use crate::error::WordsError;
+use crate::hop::{HopWords, hop_words};
+use crate::run::{RunWords, run_words};
+use std::alloc::Global;
+
+/// What the words ask for.
+#[derive(Clone, Copy, Debug, PartialEq, Eq)]
+pub enum Asked<'a> {
+    /// `hop KEY FILE`.
+    Hop(HopWords<'a>),
+    /// `run TOPOLOGY SCRIPT` with its options.
+    Run(RunWords<'a>),
+}
+
+/// Reads the words after the program's name.
+///
+/// `Refused`: the words are no command. `OutOfMemory`: no memory; it comes only where the first
+/// word is `run`, and may come there in place of `Refused`. Other words take no memory.
+#[tactic(auto, unfolding(crate::specs::Request::request_of))]
+pub fn asked_for<'a>(alloc: Global, words: &'a [String]) -> Result<Asked<'a>, WordsError>
+    ensures asks { AsksFor request_in (request_of (map string_bytes words.entry.now)) result }
+    ensures memory { result ≡ Err WordsError.OutOfMemory
+        → IsTrue (is_command (codes "run") (map string_bytes words.entry.now)) }
+{
+    let [command, rest @ ..] = words else {
+        return Err(WordsError::Refused);
+    };
+    match command.as_str() {
+        "hop" => match hop_words(rest) {
+            Some(words) => Ok(Asked::Hop(words)),
+            None => Err(WordsError::Refused),
+        },
+        "run" => match run_words(alloc, rest) {
+            Ok(words) => Ok(Asked::Run(words)),
+            Err(error) => Err(error),
+        },
+        _ => Err(WordsError::Refused),
+    }
+}

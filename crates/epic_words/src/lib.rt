@@ -1,0 +1,15 @@
+//! What the words of the command line ask for.
+#![tactic(auto)]
+
+mod asked;
+mod command;
+mod error;
+mod hop;
+mod run;
+#[cfg(test)]
+mod tests;
+
+pub use asked::{Asked, asked_for};
+pub use error::WordsError;
+pub use hop::{HopWords, hop_words};
+pub use run::{RunWords, run_words};

@@ -1,0 +1,126 @@
+//! Words and what they ask for, in tables.
+
+use super::*;
+use std::alloc::{AllocError, Global};
+use std::test::Fail;
+
+/// The words `run t s`.
+const NAMES: RunWords<'static> = RunWords {
+    topology: "t",
+    script: "s",
+    capture: None,
+    save: None,
+};
+
+/// The words of a line, between its single spaces.
+fn split(alloc: Global, line: &str) -> Result<Vec<String>, AllocError> {
+    let mut words = Vec::new(alloc);
+    for word in line.split(' ') {
+        words.push(String::from_str(alloc, word)?)?;
+    }
+    Ok(words)
+}
+
+#[test]
+fn words_of_run(rt: HostRuntime) -> Result<(), Fail> {
+    let alloc = rt.alloc();
+    for (line, names) in [
+        ("run t s", NAMES),
+        (
+            "run t s --save d",
+            RunWords {
+                save: Some("d"),
+                ..NAMES
+            },
+        ),
+        (
+            "run t --save=d s",
+            RunWords {
+                save: Some("d"),
+                ..NAMES
+            },
+        ),
+        (
+            "run --save=-x --capture - t s",
+            RunWords {
+                capture: Some("-"),
+                save: Some("-x"),
+                ..NAMES
+            },
+        ),
+        (
+            "run t s --save=",
+            RunWords {
+                save: Some(""),
+                ..NAMES
+            },
+        ),
+        (
+            "run -- --save s",
+            RunWords {
+                topology: "--save",
+                ..NAMES
+            },
+        ),
+        (
+            "run t t --capture t",
+            RunWords {
+                script: "t",
+                capture: Some("t"),
+                ..NAMES
+            },
+        ),
+    ] {
+        let words = split(alloc, line)?;
+        assert!(rt; asked_for(alloc, &words) == Ok(Asked::Run(names)), "{line}");
+    }
+    Ok(())
+}
+
+#[test]
+fn words_that_are_refused(rt: HostRuntime) -> Result<(), Fail> {
+    let alloc = rt.alloc();
+    assert!(rt; asked_for(alloc, &[]) == Err(WordsError::Refused));
+    for line in [
+        "",
+        "fly",
+        "--save=d run t s",
+        "run t",
+        "run t s x",
+        "run t s --help",
+        "run -h",
+        "run --version",
+        "run t s --sav d",
+        "run t s --save",
+        "run t s --save -x",
+        "run t s --save -- d",
+        "run -x s",
+        "run t s --save=d --save=d",
+        "run t s --makers",
+        "run t s --save t",
+        "run t s --save s",
+        "run t s --capture=c --save=c",
+        "hop zz f",
+        "hop 000102030405060708090a0b0c0d0e0f",
+        "hop 000102030405060708090a0b0c0d0e0f f --save=d",
+    ] {
+        let words = split(alloc, line)?;
+        assert!(rt;
+            asked_for(alloc, &words) == Err(WordsError::Refused),
+            "{line}"
+        );
+    }
+    Ok(())
+}
+
+#[test]
+fn words_of_hop(rt: HostRuntime) -> Result<(), Fail> {
+    let alloc = rt.alloc();
+    let words = split(alloc, "hop 000102030405060708090a0b0c0d0E0F f")?;
+    let hop = HopWords {
+        key: [0, 1, 2, 3, 4, 5, 6, 7, 8, 9, 10, 11, 12, 13, 14, 15],
+        file: "f",
+    };
+    assert!(rt; asked_for(alloc, &words) == Ok(Asked::Hop(hop)));
+    Ok(())
+}
