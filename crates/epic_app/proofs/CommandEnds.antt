@@ -1,6 +1,7 @@
 -- How commands end, from what their files led to and how their reports were written.
-use Rattle.std.proofs.Common.{◌≡◌, ℕ, ◌<◌, ◌≤◌, ltb, Bool, List, [], ◌∷◌, length, Option, Some, None, Result, Ok, Err, Contains, count_by, refl, sym, ap, subst, ◌∙◌, inl, arith}
+use Rattle.std.proofs.Common.{◌≡◌, ℕ, ◌≤◌, ltb, Bool, List, [], ◌∷◌, Option, Some, None, Result, Ok, Err, Contains, count_by, refl, sym, ap, subst, ◌∙◌, inl, inr, arith}
 use Rattle.std.specs.Global.{Vec}
+use Rattle.std.specs.Option.{option_to_list}
 use Rattle.std.specs.Prelude.{IfOk}
 use Rattle.epic_num.specs.declared.command.Command.{Command}
 use Rattle.epic_ports.specs.Faults.{CountsOnly, Rose}
@@ -14,8 +15,8 @@ use Rattle.epic_world.specs.Run.{run}
 use Rattle.epic_app.specs.declared.end.End.{End}
 use Rattle.epic_app.specs.declared.end.End.TheVariants.{Done, BadWords, BadTopology, LongTopology, BadScript, LongScript, ReadFault, WriteFault, OutOfMemory}
 use Rattle.epic_app.specs.declared.hop_file.HopCommand.{HopCommand}
-use Rattle.epic_app.specs.Acts.{World}
-use Rattle.epic_app.specs.Doing.{Progress, doing, alarm_status, ends, hop_done, on_commands, on_topology, run_done}
+use Rattle.epic_app.specs.Acts.{Act, World}
+use Rattle.epic_app.specs.Doing.{Progress, doing, hop_done, on_commands, on_topology, run_acts, run_done}
 use Rattle.epic_app.specs.End.{Blames, EndsAs, HasCause, end_after}
 use Rattle.epic_app.specs.FilesRead.{IsEarly, Leads, follows}
 use Rattle.epic_app.specs.HopFile.{hop_rule}
@@ -23,10 +24,12 @@ use Rattle.epic_app.specs.HopReport.{answers, hop_report, is_forged}
 use Rattle.epic_app.specs.Limits.{file_limit, script_limit}
 use Rattle.epic_app.specs.Outcome.{CountsStay, FilesStay}
 use Rattle.epic_app.specs.Readings.{Reading, Unread, IsReading}
-use Rattle.epic_app.specs.Request.{Request, Hop, Run, reads_of}
-use Rattle.epic_app.specs.RunReport.{has_alarm, run_text}
+use Rattle.epic_words.specs.Request.{Request, Hop, Run, reads_of}
+use Rattle.epic_app.specs.Performing.{OthersKeep, Performs}
+use Rattle.epic_app.specs.RunReport.{has_alarm}
 use Rattle.epic_app.specs.Writing.{Writes}
-use Rattle.epic_app.proofs.ActLaws.{does_nothing, memory_first, report_cause, steps_acts-prints}
+use Rattle.epic_app.proofs.ActFiles.{does_nothing}
+use Rattle.epic_app.proofs.ActLaws.{acts_cause, memory_first, report_cause}
 use Rattle.epic_app.proofs.FileLaws.{keeps_both, keeps_itself, later_by, reading_between}
 
 -- ---- causes
@@ -124,74 +127,100 @@ first_of m n q e = (0, omega arith, sym e)
 second_of : (m n q : List ℕ) → q ≡ n → Contains (m ∷ n ∷ []) q
 second_of m n q e = (1, omega arith, sym e)
 
+-- a run over two files that saves, or doesn't
+abbrev pub run_of : List ℕ → List ℕ → Option (List ℕ) → Request
+run_of m n save = Run (record { topology = m; script = n; capture = None; save = save })
+
+acts_blame : (m n : List ℕ) (save : Option (List ℕ)) (acts : List Act) (old new : World) (r : Result Bool PortError) → Performs save acts old new r
+    → Blames (run_of m n save) old new (end_after r)
+acts_blame m n save acts old new (Ok b) done = tt
+acts_blame m n None acts old new (Err port_error.Failed) (stops, rose) = inl rose
+acts_blame m n (Some name) acts old new (Err port_error.Failed) (stops, inl rose) = inl rose
+acts_blame m n (Some name) acts old new (Err port_error.Failed) (stops, inr rose) = inr (name, (0, omega arith, refl), rose)
+acts_blame m n save acts old new (Err port_error.OutOfMemory) stops = tt
+
+-- files other than the saved one stay
+others_files : (m n : List ℕ) (save : Option (List ℕ)) (old new : Option Files) → OthersKeep save old new → FilesStay (run_of m n save) old new
+others_files m n save None new others = tt
+others_files m n save (Some f) None others = absurd others
+others_files m n save (Some f) (Some g) others = others
+
 -- where the topology ends the command
-pub run_refused_first : (m n : List ℕ) (old new : World) (end : End) → KeepsFiles old.contents new.contents → CountsOnly m old.reads new.reads → new.writes ≡ old.writes
+pub run_refused_first : (m n : List ℕ) (save : Option (List ℕ)) (old new : World) (end : End)
+    → KeepsFiles old.contents new.contents → CountsOnly m old.reads new.reads → new.writes ≡ old.writes
     → Leads {X = Network} old.contents m (old.reads m) (new.reads m) (on_topology m) (λ t. t) (Err end)
-    → Appends old.written new.written [] → EndsAs (Run m n) old new end
+    → Appends old.written new.written [] → EndsAs (run_of m n save) old new end
 unfolding doing
-run_refused_first m n old new end keeps only same file nothing =
-    let next : Network → Progress = λ t. on_commands n script_limit run_rule Unread (run_done t) in
+run_refused_first m n save old new end keeps only same file nothing =
+    let next : Network → Progress = λ t. on_commands n script_limit run_rule Unread (run_done save t) in
     record {
       readings = file.reading ∷ Unread ∷ [];
       are_read = (file.is_reading, (tt, tt));
       cause = cause_by _ _ old new end (file.leads next) (early_cause {X = Network} next m (old.reads m) (new.reads m) old new end file.early keeps nothing);
-      blames = early_blames (Run m n) m (old.reads m) old new end file.early (first_of m n m refl) (omega arith);
+      blames = early_blames (run_of m n save) m (old.reads m) old new end file.early (first_of m n m refl) (omega arith);
       counts = record {
         reads = λ q absent. only.others q (λ e. absent (first_of m n q e));
         writes = λ q absent. ap (λ (counts : List ℕ → ℕ). counts q) same;
       };
-      files = files_stay (Run m n) old.contents new.contents keeps;
+      files = files_stay (run_of m n save) old.contents new.contents keeps;
     }
 
--- where both files were looked at; between the two the world was `mid`
-module _ (m n : List ℕ) (old mid new : World) (keeps : KeepsFiles old.contents mid.contents) (keeps_on : KeepsFiles mid.contents new.contents)
-    (first : CountsOnly m old.reads mid.reads) (second : CountsOnly n mid.reads new.reads) (same : mid.writes ≡ old.writes) (same_on : new.writes ≡ mid.writes)
+-- where both files were looked at; between the two the world was `mid`, and behind them `late`
+module _ (m n : List ℕ) (save : Option (List ℕ)) (old mid late : World) (keeps : KeepsFiles old.contents mid.contents) (keeps_on : KeepsFiles mid.contents late.contents)
+    (first : CountsOnly m old.reads mid.reads) (second : CountsOnly n mid.reads late.reads) (same : mid.writes ≡ old.writes) (same_on : late.writes ≡ mid.writes)
     (t : Network) (file : Leads {X = Network} old.contents m (old.reads m) (mid.reads m) (on_topology m) (λ t. t) (Ok t)) where
-  run_counts : CountsStay (Run m n) old new
-  run_counts = record {
-    reads = λ q absent. second.others q (λ e. absent (second_of m n q e)) ∙ first.others q (λ e. absent (first_of m n q e));
-    writes = λ q absent. ap (λ (counts : List ℕ → ℕ). counts q) (same_on ∙ same);
-  }
+  read_counts : (q : List ℕ) → ¬ Contains (m ∷ n ∷ []) q → late.reads q ≡ old.reads q
+  read_counts q absent = second.others q (λ e. absent (second_of m n q e)) ∙ first.others q (λ e. absent (first_of m n q e))
 
-  all_keeps : KeepsFiles old.contents new.contents
-  all_keeps = keeps_both old.contents mid.contents new.contents keeps keeps_on
+  all_keeps : KeepsFiles old.contents late.contents
+  all_keeps = keeps_both old.contents mid.contents late.contents keeps keeps_on
 
-  reads_first : IsReading old.contents m (old.reads m) (new.reads m) file.reading
-  reads_first = reading_between old.contents old.contents m (old.reads m) (old.reads m) (mid.reads m) (new.reads m) file.reading
-      (keeps_itself old.contents) (omega arith) (later_by n m mid.reads new.reads second) file.is_reading
+  reads_first : (new : ℕ) → new ≡ late.reads m → IsReading old.contents m (old.reads m) new file.reading
+  reads_first new is = let P : ℕ → Type 0 = λ k. IsReading old.contents m (old.reads m) k file.reading in
+      subst P (sym is) (reading_between old.contents old.contents m (old.reads m) (old.reads m) (mid.reads m) (late.reads m) file.reading
+      (keeps_itself old.contents) (omega arith) (later_by n m mid.reads late.reads second) file.is_reading)
 
-  reads_second : (reading : Reading) → IsReading mid.contents n (mid.reads n) (new.reads n) reading → IsReading old.contents n (old.reads n) (new.reads n) reading
-  reads_second reading is = reading_between old.contents mid.contents n (old.reads n) (mid.reads n) (new.reads n) (new.reads n) reading
-      keeps (later_by m n old.reads mid.reads first) (omega arith) is
+  reads_second : (reading : Reading) (new : ℕ) → new ≡ late.reads n → IsReading mid.contents n (mid.reads n) (late.reads n) reading
+      → IsReading old.contents n (old.reads n) new reading
+  reads_second reading new same_now is = let P : ℕ → Type 0 = λ k. IsReading old.contents n (old.reads n) k reading in
+      subst P (sym same_now) (reading_between old.contents mid.contents n (old.reads n) (mid.reads n) (late.reads n) (late.reads n) reading
+      keeps (later_by m n old.reads mid.reads first) (omega arith) is)
 
   pub run_refused_second : (end : End)
-      → Leads {X = Vec Command} mid.contents n (mid.reads n) (new.reads n) (on_commands n script_limit run_rule) (λ v. v.items) (Err end)
-      → Appends old.written new.written [] → EndsAs (Run m n) old new end
+      → Leads {X = Vec Command} mid.contents n (mid.reads n) (late.reads n) (on_commands n script_limit run_rule) (λ v. v.items) (Err end)
+      → Appends old.written late.written [] → EndsAs (run_of m n save) old late end
   unfolding doing
   run_refused_second end script nothing = record {
     readings = file.reading ∷ script.reading ∷ [];
-    are_read = (reads_first, (reads_second script.reading script.is_reading, tt));
-    cause = cause_by _ _ old new end (file.leads (λ t. on_commands n script_limit run_rule script.reading (run_done t)) ∙ script.leads (run_done t))
-        (early_cause {X = Vec Command} (λ v. run_done t v.items) n (mid.reads n) (new.reads n) old new end script.early all_keeps nothing);
-    blames = early_blames (Run m n) n (mid.reads n) old new end script.early (second_of m n n refl) (later_by m n old.reads mid.reads first);
-    counts = run_counts;
-    files = files_stay (Run m n) old.contents new.contents all_keeps;
+    are_read = (reads_first (late.reads m) refl, (reads_second script.reading (late.reads n) refl script.is_reading, tt));
+    cause = cause_by _ _ old late end (file.leads (λ t. on_commands n script_limit run_rule script.reading (run_done save t)) ∙ script.leads (run_done save t))
+        (early_cause {X = Vec Command} (λ v. run_done save t v.items) n (mid.reads n) (late.reads n) old late end script.early all_keeps nothing);
+    blames = early_blames (run_of m n save) n (mid.reads n) old late end script.early (second_of m n n refl) (later_by m n old.reads mid.reads first);
+    counts = record {
+      reads = read_counts;
+      writes = λ q absent. ap (λ (counts : List ℕ → ℕ). counts q) (same_on ∙ same);
+    };
+    files = files_stay (run_of m n save) old.contents late.contents all_keeps;
   }
 
-  pub run_answered : (commands : Vec Command) (r : Result Bool PortError)
-      → Leads mid.contents n (mid.reads n) (new.reads n) (on_commands n script_limit run_rule) (λ v. v.items) (Ok commands)
-      → Writes (run_text t (run t commands.items)) old.written new.written old.faults new.faults r
+  pub run_answered : (new : World) (commands : Vec Command) (r : Result Bool PortError)
+      → Leads mid.contents n (mid.reads n) (late.reads n) (on_commands n script_limit run_rule) (λ v. v.items) (Ok commands)
+      → Performs save (run_acts save t (run t commands.items)) old new r
+      → OthersKeep save old.contents new.contents → new.reads ≡ late.reads
+      → ((q : List ℕ) → ¬ Contains (option_to_list save) q → new.writes q ≡ late.writes q)
       → IfOk r (λ alarm. alarm ≡ has_alarm (run t commands.items))
-      → EndsAs (Run m n) old new (end_after r)
+      → EndsAs (run_of m n save) old new (end_after r)
   unfolding doing run_done
-  run_answered commands r script writes alarm = record {
+  run_answered new commands r script performs others reads writes alarm = record {
     readings = file.reading ∷ script.reading ∷ [];
-    are_read = (reads_first, (reads_second script.reading script.is_reading, tt));
+    are_read = (reads_first (new.reads m) (ap (λ (counts : List ℕ → ℕ). counts m) reads), (reads_second script.reading (new.reads n) (ap (λ (counts : List ℕ → ℕ). counts n) reads) script.is_reading, tt));
     cause = cause_by _ _ old new (end_after r)
-        (file.leads (λ t. on_commands n script_limit run_rule script.reading (run_done t)) ∙ script.leads (run_done t)
-        ∙ ap (λ acts. ends acts (alarm_status (has_alarm (run t commands.items))) []) (steps_acts-prints t (run t commands.items)))
-        (report_cause (run_text t (run t commands.items)) (has_alarm (run t commands.items)) old new r all_keeps writes alarm);
-    blames = report_blames (Run m n) (run_text t (run t commands.items)) old new r writes;
-    counts = run_counts;
-    files = files_stay (Run m n) old.contents new.contents all_keeps;
+        (file.leads (λ t. on_commands n script_limit run_rule script.reading (run_done save t)) ∙ script.leads (run_done save t))
+        (acts_cause save (run_acts save t (run t commands.items)) (has_alarm (run t commands.items)) old new r performs alarm);
+    blames = acts_blame m n save (run_acts save t (run t commands.items)) old new r performs;
+    counts = record {
+      reads = λ q absent. ap (λ (counts : List ℕ → ℕ). counts q) reads ∙ read_counts q absent;
+      writes = λ q absent. writes q absent ∙ ap (λ (counts : List ℕ → ℕ). counts q) (same_on ∙ same);
+    };
+    files = others_files m n save old.contents new.contents others;
   }

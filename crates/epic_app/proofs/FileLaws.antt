@@ -1,5 +1,5 @@
 -- What a file that was read leads to.
-use Rattle.std.proofs.Common.{◌≡◌, ℕ, ◌+◌, ◌<◌, ◌≤◌, ltb, true, false, cond, List, [], ◌∷◌, ◌++◌, length, replicate, Option, Some, None, Result, Ok, Err, bytes_eq, refl, sym, ap, subst, ◌∙◌, arith}
+use Rattle.std.proofs.Common.{◌≡◌, ℕ, ◌+◌, ◌<◌, ◌≤◌, true, false, List, [], length, replicate, Option, Some, None, Result, Ok, Err, bytes_eq, refl, sym, ap, subst, ◌∙◌, arith}
 use Rattle.std.specs.Global.{Vec}
 use Rattle.std.proofs.lemmas.Bool.Decides.{nat_tests}
 use Rattle.std.proofs.lemmas.List.{length-replicate}
@@ -10,11 +10,7 @@ use Rattle.epic_ports.specs.declared.error.ReadError.TheVariants.{TooLong}
 use Rattle.epic_topo.specs.Network.{Network}
 use Rattle.epic_topo.specs.Reading.{topology}
 use Rattle.epic_topo.specs.declared.fault.TopoError.{TopoError}
-use Rattle.epic_topo.specs.declared.fault.TopoError.TheVariants.{Bad}
-use Rattle.epic_topo.specs.declared.fault.TopoKey.{TopoKey}
-use Rattle.epic_topo.specs.declared.fault.TopoKind.{TopoKind}
 use Rattle.epic_text.specs.Script.{Fault, Rule, commands_of}
-use Rattle.epic_text.specs.declared.script.ScriptKind.{ScriptKind}
 use Rattle.epic_app.specs.Doing.{Progress, by_commands, by_topology, ends, on_commands, on_topology, whole, within}
 use Rattle.epic_app.specs.FaultLines.{long_topology_line, too_long_line}
 use Rattle.epic_app.specs.Limits.{topology_limit}

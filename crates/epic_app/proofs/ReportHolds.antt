@@ -12,27 +12,28 @@ use Rattle.epic_topo.specs.declared.fault.TopoError.{TopoError}
 use Rattle.epic_topo.specs.declared.fault.TopoError.TheVariants.{Bad, OutOfMemory}
 use Rattle.epic_topo.proofs.ReadLawful.{read_lawful}
 use Rattle.epic_topo.proofs.Steps.{at_ok}
-use Rattle.epic_text.specs.RunScript.{run_rule}
+use Rattle.epic_num.specs.declared.command.Command.TheVariants as command
+use Rattle.epic_text.specs.RunScript.{CommandsAreSpelled, IsSpelled, run_rule}
 use Rattle.epic_text.specs.Script.{Fault, Rule, commands_of}
 use Rattle.epic_world.specs.Run.{run}
-use Rattle.epic_world.specs.Sound.{CarriesBytes}
+use Rattle.epic_model.specs.World.{Fits}
+use Rattle.epic_world.specs.Sound.{RunsHold}
 use Rattle.epic_app.specs.Acts.{Act, World, Does, printed, prints}
-use Rattle.epic_app.specs.Claims.{HopHolds, RunHolds, RunsHold, HoldsUnder}
-use Rattle.epic_app.specs.Doing.{Progress, by_commands, by_topology, doing, ends, hop_done, on_commands, on_topology, run_done, whole, within}
+use Rattle.epic_app.specs.Claims.{HopHolds, HoldsUnder, RunHolds}
+use Rattle.epic_app.specs.Doing.{Progress, by_commands, by_topology, doing, ends, hop_done, on_commands, on_topology, run_acts, run_done, whole, within}
 use Rattle.epic_app.specs.FaultLines.{fault_line, long_topology_line, read_line, too_long_line, topology_line}
-use Rattle.epic_app.specs.FilesRead.{IsTakenUp}
 use Rattle.epic_app.specs.HopFile.{hop_rule}
 use Rattle.epic_app.specs.HopReport.{answers, hop_report, is_forged}
 use Rattle.epic_app.specs.Limits.{file_limit, script_limit, topology_limit}
 use Rattle.epic_app.specs.Outcome.{ErrorSink, EndsBy, EndsUnder}
 use Rattle.epic_app.specs.Readings.{Reading, Whole, Failed, Unread, Holds, AreRead, IsRead}
-use Rattle.epic_app.specs.Request.{Request, Hop, Run}
-use Rattle.epic_app.specs.RunReport.{has_alarm, run_text}
-use Rattle.epic_app.specs.declared.hop_file.HopCommand.{HopCommand}
-use Rattle.epic_app.proofs.ActLaws.{printed-prints, steps_acts-prints}
+use Rattle.epic_words.specs.Request.{Request, Hop, Run, RunRequest, reads_of}
+use Rattle.epic_app.specs.RunReport.{has_alarm}
+use Rattle.epic_app.proofs.ActFiles.{printed-prints}
+use Rattle.epic_app.proofs.ScriptCommands.{few_commands}
+use Rattle.epic_app.proofs.RunActs.{printed-run, saves_whole}
 use Rattle.epic_app.proofs.AllOf.{all_map}
 use Rattle.epic_app.proofs.AnswersHold.{answers_hold}
-use Rattle.epic_app.proofs.ScriptCommands.{commands_taken}
 
 -- ---- what decided a status of 0 or 1
 
@@ -144,34 +145,52 @@ hop_claims key name old new reading status read below end done =
           (sym (ap (λ (p : Progress). ended_status p) by.leads) ∙ ended_at (doing (Hop key name) (reading ∷ [])) status end);
     }
 
-run_claims : RunsHold → (m n : List ℕ) (old new : World) (first second : Reading) (status : ℕ) → IsRead old new m first → IsRead old new n second → status < 2
-    → IsEnd (doing (Run m n) (first ∷ second ∷ [])) status → Does (doing (Run m n) (first ∷ second ∷ [])).acts old new → RunHolds m n old new status
-unfolding doing run_done
-run_claims runs_hold m n old new first second status read read_too below end done =
-    let next : Network → Progress = λ t. on_commands n script_limit run_rule second (run_done t) in
-    let top = topology_decides m first next status below end in
-    let end_next : IsEnd (next top.network) status = let P : Progress → Type 0 = λ p. IsEnd p status in subst P top.leads end in
-    let by = commands_decide n script_limit run_rule second (run_done top.network) status below end_next in
-    let leads = top.leads ∙ by.leads in
-    let steps = run top.network by.commands in
-    let lawful : IsTopology top.network = at_ok IsTopology (topology top.bytes) top.network top.is (read_lawful top.bytes) in
-    let bytes = all_map IsTakenUp CarriesBytes by.commands (λ c taken. taken.bytes) (commands_taken by.bytes by.commands by.are) in
-    let holds = runs_hold top.network by.commands lawful bytes in
-    record {
-      text = top.bytes;
-      bytes = by.bytes;
-      is_topology = file_held old new m first top.bytes top.is_whole read;
-      is_script = file_held old new n second by.bytes by.is_whole read_too;
-      network = top.network;
-      is_network = top.is;
-      commands = by.commands;
-      are_commands = by.are;
-      states = holds.0;
-      last = holds.1;
-      verdicts = holds.2;
-      report = text_printed (doing (Run m n) (first ∷ second ∷ [])) (run_text top.network steps) old new (ap (λ (p : Progress). p.acts) leads ∙ steps_acts-prints top.network steps) done;
-      alarm = status_one (has_alarm steps) (has_alarm steps) status refl (sym (ap (λ (p : Progress). ended_status p) leads) ∙ ended_at (doing (Run m n) (first ∷ second ∷ [])) status end);
-    }
+-- the parts of a command that a script spells fit their types
+fits_so : (c : Command) → IsSpelled c → Fits c
+fits_so (command.At moment) is = is
+fits_so (command.Originate a out exp) is = is
+fits_so (command.Extend parent out exp) is = is
+fits_so (command.Fetch source owner epoch) is = tt
+fits_so (command.Paths from to) is = tt
+fits_so (command.Send version level src dst segments payload) is = is
+fits_so (command.Turn a iface bytes) is = is
+fits_so (command.Arrive host bytes) is = is
+fits_so (command.Pass emission) is = tt
+fits_so (command.Carry emission) is = tt
+fits_so (command.Reveal holder) is = tt
+fits_so (command.Roll a) is = tt
+
+module _ (runs_hold : RunsHold) (spelled : CommandsAreSpelled) where
+  run_claims : (r : RunRequest) (old new : World) (first second : Reading) (status : ℕ) → IsRead old new r.topology first → IsRead old new r.script second → status < 2
+      → IsEnd (doing (Run r) (first ∷ second ∷ [])) status → Does (doing (Run r) (first ∷ second ∷ [])).acts old new → RunHolds r old new status
+  unfolding doing run_done run
+  run_claims r old new first second status read read_too below end done =
+      let next : Network → Progress = λ t. on_commands r.script script_limit run_rule second (run_done r.save t) in
+      let top = topology_decides r.topology first next status below end in
+      let end_next : IsEnd (next top.network) status = let P : Progress → Type 0 = λ p. IsEnd p status in subst P top.leads end in
+      let by = commands_decide r.script script_limit run_rule second (run_done r.save top.network) status below end_next in
+      let leads = top.leads ∙ by.leads in
+      let steps = run top.network by.commands in
+      let acts = run_acts r.save top.network steps in
+      let did : Does acts old new = let P : List Act → Type 0 = λ a. Does a old new in subst P (ap (λ (p : Progress). p.acts) leads) done in
+      let lawful : IsTopology top.network = at_ok IsTopology (topology top.bytes) top.network top.is (read_lawful top.bytes) in
+      let fit = all_map IsSpelled Fits by.commands fits_so (spelled by.bytes by.commands by.are) in
+      let holds = runs_hold top.network by.commands lawful fit (omega (arith, few_commands run_rule by.bytes by.commands by.are)) in
+      record {
+        text = top.bytes;
+        bytes = by.bytes;
+        is_topology = file_held old new r.topology first top.bytes top.is_whole read;
+        is_script = file_held old new r.script second by.bytes by.is_whole read_too;
+        network = top.network;
+        is_network = top.is;
+        commands = by.commands;
+        are_commands = by.are;
+        steps = holds.0;
+        last = holds.1;
+        report = (let P = Appends old.written new.written in subst P (printed-run r.save top.network steps) did.output);
+        alarm = status_one (has_alarm steps) (has_alarm steps) status refl (sym (ap (λ (p : Progress). ended_status p) leads) ∙ ended_at (doing (Run r) (first ∷ second ∷ [])) status end);
+        saved = saves_whole r.save top.network steps old.contents new.contents did.files;
+      }
 
 -- ---- the whole
 
@@ -189,17 +208,21 @@ hop_holds key name old new e f status (reading ∷ []) (read, none) by below =
     hop_claims key name old new reading status read below end done
 hop_holds key name old new e f status (reading ∷ second ∷ more) (read, many) by below = absurd many
 
-run_holds : RunsHold → (m n : List ℕ) (old new : World) (e f : ErrorSink) (status : ℕ) (readings : List Reading) → AreRead old new (m ∷ n ∷ []) readings
-    → EndsBy (doing (Run m n) readings) old new e f status → status < 2 → RunHolds m n old new status
-run_holds runs_hold m n old new e f status [] read by below = absurd read
-run_holds runs_hold m n old new e f status (first ∷ []) (read, few) by below = absurd few
-run_holds runs_hold m n old new e f status (first ∷ second ∷ []) (read, (read_too, none)) by below =
-    let (end, done) = decided _ old new e f status by below in
-    run_claims runs_hold m n old new first second status read read_too below end done
-run_holds runs_hold m n old new e f status (first ∷ second ∷ third ∷ more) (read, (read_too, many)) by below = absurd many
+module _ (runs_hold : RunsHold) (spelled : CommandsAreSpelled) where
+  run_holds : (r : RunRequest) (old new : World) (e f : ErrorSink) (status : ℕ) (readings : List Reading) → AreRead old new (reads_of (Run r)) readings
+      → EndsBy (doing (Run r) readings) old new e f status → status < 2 → RunHolds r old new status
+  unfolding doing
+  run_holds r old new e f status [] read by below = absurd read
+  run_holds r old new e f status (first ∷ []) (read, none) by below = absurd none
+  run_holds r old new e f status (first ∷ second ∷ []) (read, (read_too, none)) by below =
+      let (end, done) = decided _ old new e f status by below in
+      run_claims runs_hold spelled r old new first second status read read_too below end done
+  run_holds r old new e f status (first ∷ second ∷ third ∷ more) read by below =
+      let ((line, is), done) = decided _ old new e f status by below in
+      absurd (cc)
 
-pub holds_under : RunsHold → (request : Option Request) (old new : World) (e f : ErrorSink) (status : ℕ)
-    → EndsUnder request old new e f status → HoldsUnder request old new status
-holds_under runs_hold None old new e f status ended = tt
-holds_under runs_hold (Some (Hop key name)) old new e f status ended = λ below. hop_holds key name old new e f status ended.readings ended.are_read ended.ends below
-holds_under runs_hold (Some (Run m n)) old new e f status ended = λ below. run_holds runs_hold m n old new e f status ended.readings ended.are_read ended.ends below
+  pub holds_under : (words : List (List ℕ)) (request : Option Request) (old new : World) (e f : ErrorSink) (status : ℕ)
+      → EndsUnder words request old new e f status → HoldsUnder request old new status
+  holds_under words None old new e f status ended = tt
+  holds_under words (Some (Hop key name)) old new e f status ended = λ below. hop_holds key name old new e f status ended.readings ended.are_read ended.ends below
+  holds_under words (Some (Run r)) old new e f status ended = λ below. run_holds r old new e f status ended.readings ended.are_read ended.ends below

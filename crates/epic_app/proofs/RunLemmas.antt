@@ -1,5 +1,5 @@
 -- A run, step by step.
-use Rattle.std.proofs.Common.{◌≡◌, ℕ, suc, ◌+◌, ◌<◌, ◌≤◌, Bool, true, false, not, ◌||◌, ltb, cond, List, [], ◌∷◌, ◌++◌, length, take, drop, get_or, Result, Ok, Err, count_by, flat_map, refl, sym, ap, ◌∙◌, arith, append-nil, append_assoc, take_all, zero-add}
+use Rattle.std.proofs.Common.{◌≡◌, ℕ, suc, ◌+◌, ◌<◌, ◌≤◌, Bool, true, false, ◌||◌, ltb, cond, List, [], ◌∷◌, ◌++◌, length, take, drop, get_or, Option, count_by, flat_map, refl, sym, ap, ◌∙◌, arith, append-nil, append_assoc, take_all, zero-add}
 use Rattle.std.specs.List.{list_any}
 use Rattle.std.proofs.lemmas.Bool.Decides.{nat_tests}
 use Rattle.std.proofs.lemmas.List.{take_more, drop_more, drop_all, take-append-drop}
@@ -11,19 +11,13 @@ use Rattle.epic_topo.specs.Network.{Network}
 use Rattle.epic_text.specs.declared.counts.Counts.{Counts}
 use Rattle.epic_text.specs.Counts.{counted, counts_of, end_line, is_forged, is_collided}
 use Rattle.epic_text.proofs.CountLemmas.{counts_of-last}
-use Rattle.epic_num.specs.declared.beacon_error.BeaconError.{BeaconError}
-use Rattle.epic_num.specs.declared.command.Command.TheVariants as command
-use Rattle.epic_num.specs.declared.name.AsId.{AsId}
-use Rattle.epic_num.specs.declared.turn.Turn.{Turn}
-use Rattle.epic_num.specs.declared.turn.Turn.TheVariants.{Forward, Deliver, Refused}
-use Rattle.epic_topo.specs.Network.{has}
-use Rattle.epic_beacon.specs.declared.beacon.Beacon.{Beacon}
-use Rattle.epic_world.specs.Next.{next, next_at, next_originate, next_extend, next_fetch, next_paths, next_turn, issued}
-use Rattle.epic_world.specs.Stepped.{Stepped}
-use Rattle.epic_world.specs.Turning.{turned_at, turned_by, accepted_at}
+use Rattle.epic_model.specs.State.{State, start}
+use Rattle.epic_model.specs.Steps.{next}
 use Rattle.epic_world.specs.Run.{Done, done_by, run_from, state_after, run}
-use Rattle.epic_world.specs.State.{State, start}
-use Rattle.epic_app.specs.RunReport.{step_text, steps_text, run_text, all_verdicts, verdicts_in, is_alarm, has_alarm}
+use Rattle.epic_app.specs.Acts.{Act, prints}
+use Rattle.epic_app.specs.Doing.{run_acts, step_acts}
+use Rattle.epic_app.specs.RunReport.{all_verdicts, verdicts_in, is_alarm, has_alarm}
+use Rattle.epic_app.specs.Saved.{opening}
 use Rattle.epic_app.specs.StepLines.{count_all}
 
 -- ---- commands in two parts
@@ -54,13 +48,12 @@ state_last t s xs c = state_after-append t s xs (c ∷ [])
 
 -- ---- their texts and verdicts
 
-pub text_last : (t : Network) (s : State) (xs : List Command) (c : Command)
-    → steps_text t (run_from t s (xs ++ c ∷ [])) ≡ steps_text t (run_from t s xs) ++ step_text t (done_by t (state_after t s xs) c)
-unfolding steps_text
-text_last t s xs c =
-    ap (flat_map (step_text t)) (run_last t s xs c)
-    ∙ (flat_map-append (step_text t) (run_from t s xs) (done_by t (state_after t s xs) c ∷ [])
-    ∙ ap (λ text. flat_map (step_text t) (run_from t s xs) ++ text) (append-nil (step_text t (done_by t (state_after t s xs) c))))
+pub acts_last : (save : Option (List ℕ)) (t : Network) (s : State) (xs : List Command) (c : Command)
+    → flat_map (step_acts save t) (run_from t s (xs ++ c ∷ [])) ≡ flat_map (step_acts save t) (run_from t s xs) ++ step_acts save t (done_by t (state_after t s xs) c)
+acts_last save t s xs c =
+    ap (flat_map (step_acts save t)) (run_last t s xs c)
+    ∙ (flat_map-append (step_acts save t) (run_from t s xs) (done_by t (state_after t s xs) c ∷ [])
+    ∙ ap (λ acts. flat_map (step_acts save t) (run_from t s xs) ++ acts) (append-nil (step_acts save t (done_by t (state_after t s xs) c))))
 
 pub verdicts_last : (t : Network) (s : State) (xs : List Command) (c : Command)
     → all_verdicts (run_from t s (xs ++ c ∷ [])) ≡ all_verdicts (run_from t s xs) ++ verdicts_in (next t (state_after t s xs) c).answer
@@ -70,14 +63,15 @@ verdicts_last t s xs c =
     ∙ (flat_map-append (λ (d : Done). verdicts_in d.answer) (run_from t s xs) (done_by t (state_after t s xs) c ∷ [])
     ∙ ap (λ vs. flat_map (λ (d : Done). verdicts_in d.answer) (run_from t s xs) ++ vs) (append-nil (verdicts_in (next t (state_after t s xs) c).answer)))
 
--- the whole text, in what a front of the commands gives and the rest
-pub text_front : (t : Network) (s : State) (xs : List Command) (c : Command) (ys : List Command)
-    → steps_text t (run_from t s (xs ++ c ∷ ys))
-    ≡ steps_text t (run_from t s xs) ++ (step_text t (done_by t (state_after t s xs) c) ++ steps_text t (run_from t (next t (state_after t s xs) c).state ys))
-unfolding steps_text run_from
-text_front t s xs c ys =
-    ap (flat_map (step_text t)) (run_from-append t s xs (c ∷ ys))
-    ∙ flat_map-append (step_text t) (run_from t s xs) (done_by t (state_after t s xs) c ∷ run_from t (next t (state_after t s xs) c).state ys)
+-- all acts, in those of a front of the commands and the rest
+pub acts_front : (save : Option (List ℕ)) (t : Network) (s : State) (xs : List Command) (c : Command) (ys : List Command)
+    → flat_map (step_acts save t) (run_from t s (xs ++ c ∷ ys))
+    ≡ flat_map (step_acts save t) (run_from t s xs)
+    ++ (step_acts save t (done_by t (state_after t s xs) c) ++ flat_map (step_acts save t) (run_from t (next t (state_after t s xs) c).state ys))
+unfolding run_from
+acts_front save t s xs c ys =
+    ap (flat_map (step_acts save t)) (run_from-append t s xs (c ∷ ys))
+    ∙ flat_map-append (step_acts save t) (run_from t s xs) (done_by t (state_after t s xs) c ∷ run_from t (next t (state_after t s xs) c).state ys)
 
 -- ---- counts
 
@@ -100,40 +94,6 @@ alarms (v ∷ vs) =
     rw (sum_by-cons (λ x. cond (is_forged x) 1 0) v vs, sum_by-cons (λ x. cond (is_collided x) 1 0) v vs)
     (one_alarm (is_forged v) (is_collided v) (count_by is_forged vs) (count_by is_collided vs) (list_any is_alarm vs) (alarms vs))
 
--- ---- steps are counted
-
-two_steps : (n : ℕ) (b : Bool) (x y : Stepped) → x.state.steps ≡ n → y.state.steps ≡ n → (cond b x y).state.steps ≡ n
-two_steps n true x y e f = e
-two_steps n false x y e f = f
-
-issued_steps : (s : State) (r : Result Beacon BeaconError) → (issued s r).state.steps ≡ s.steps + 1
-issued_steps s (Ok b) = refl
-issued_steps s (Err e) = refl
-
-turned_steps : (t : Network) (s : State) (a : AsId) (iface : ℕ) (bytes : List ℕ) (turn : Turn) → (turned_by t s a iface bytes turn).state.steps ≡ s.steps + 1
-unfolding turned_by accepted_at
-turned_steps t s a iface bytes (Forward out hops generations) = refl
-turned_steps t s a iface bytes (Deliver host hops generations) = refl
-turned_steps t s a iface bytes (Refused check hop) = refl
-
-pub next_steps : (t : Network) (s : State) (c : Command) → (next t s c).state.steps ≡ s.steps + 1
-unfolding next next_at next_originate next_extend next_fetch next_paths next_turn turned_at
-next_steps t s (command.At moment) = refl
-next_steps t s (command.Originate a out exp) = two_steps (s.steps + 1) (not (has t a)) _ _ refl (issued_steps s _)
-next_steps t s (command.Extend parent out exp) = issued_steps s _
-next_steps t s (command.Fetch source owner epoch) =
-    two_steps (s.steps + 1) (not (has t source)) _ _ refl (two_steps (s.steps + 1) (not (has t owner)) _ _ refl (two_steps (s.steps + 1) _ _ _ refl refl))
-next_steps t s (command.Paths from to) =
-    two_steps (s.steps + 1) (not (has t from)) _ _ refl (two_steps (s.steps + 1) (not (has t to)) _ _ refl (two_steps (s.steps + 1) _ _ _ refl refl))
-next_steps t s (command.Turn a iface bytes) =
-    two_steps (s.steps + 1) (not (has t a)) _ _ refl (two_steps (s.steps + 1) _ _ _ refl (turned_steps t s a iface bytes _))
-next_steps t s (command.Send version level src dst segments payload) = refl
-next_steps t s (command.Arrive host bytes) = refl
-next_steps t s (command.Pass emission) = refl
-next_steps t s (command.Carry emission) = refl
-next_steps t s (command.Reveal holder) = refl
-next_steps t s (command.Roll a) = refl
-
 -- ---- loops
 
 -- one verdict more is counted
@@ -147,49 +107,64 @@ pub count_end : (c : Counts) (vs : List Verdict) (i : ℕ) (all : Counts) → le
 unfolding count_all
 count_end c vs i all past counts = sym (ap (count_all c) (drop_all i vs past)) ∙ counts
 
+-- the acts of the opening, and of the commands up to a place
+abbrev pub acts_until : Option (List ℕ) → Network → List Command → ℕ → List Act
+acts_until save t cs i = opening save ++ flat_map (step_acts save t) (run_from t start (take i cs))
+
 -- where the commands up to a place were done, one more command is
-module _ (t : Network) (cs : List Command) (i : ℕ) (d : Command) (within : i < length cs) where
-  pub next_front : take (i + 1) cs ≡ take i cs ++ get_or cs i d ∷ []
+module _ (save : Option (List ℕ)) (t : Network) (cs : List Command) (i : ℕ) (d : Command) (within : i < length cs) where
+  next_front : take (i + 1) cs ≡ take i cs ++ get_or cs i d ∷ []
   next_front = take_more cs i d within
 
   pub next_state : state_after t start (take (i + 1) cs) ≡ (next t (state_after t start (take i cs)) (get_or cs i d)).state
   next_state = ap (state_after t start) next_front ∙ state_last t start (take i cs) (get_or cs i d)
 
-  pub next_text : steps_text t (run_from t start (take (i + 1) cs))
-      ≡ steps_text t (run_from t start (take i cs)) ++ step_text t (done_by t (state_after t start (take i cs)) (get_or cs i d))
-  next_text = ap (λ xs. steps_text t (run_from t start xs)) next_front ∙ text_last t start (take i cs) (get_or cs i d)
+  pub next_acts : acts_until save t cs (i + 1) ≡ acts_until save t cs i ++ step_acts save t (done_by t (state_after t start (take i cs)) (get_or cs i d))
+  next_acts =
+      ap (λ xs. opening save ++ flat_map (step_acts save t) (run_from t start xs)) next_front
+      ∙ (ap (λ acts. opening save ++ acts) (acts_last save t start (take i cs) (get_or cs i d))
+      ∙ sym (append_assoc (opening save) (flat_map (step_acts save t) (run_from t start (take i cs))) (step_acts save t (done_by t (state_after t start (take i cs)) (get_or cs i d)))))
 
   pub next_verdicts : all_verdicts (run_from t start (take (i + 1) cs))
       ≡ all_verdicts (run_from t start (take i cs)) ++ verdicts_in (next t (state_after t start (take i cs)) (get_or cs i d)).answer
   next_verdicts = ap (λ xs. all_verdicts (run_from t start xs)) next_front ∙ verdicts_last t start (take i cs) (get_or cs i d)
 
-  -- the text of the whole run begins with what was written and the lines of this command
-  pub run_front : (more : List ℕ) × (run_text t (run t cs) ≡ steps_text t (run_from t start (take i cs)) ++ (step_text t (done_by t (state_after t start (take i cs)) (get_or cs i d)) ++ more))
-  unfolding run_text run
+  -- all acts begin with those that were done and those of this command
+  pub run_front : (more : List Act) × (run_acts save t (run t cs) ≡ acts_until save t cs i ++ (step_acts save t (done_by t (state_after t start (take i cs)) (get_or cs i d)) ++ more))
+  unfolding run_acts run
   run_front =
       let c = get_or cs i d in
       let s = state_after t start (take i cs) in
-      let front = steps_text t (run_from t start (take i cs)) in
-      let line = step_text t (done_by t s c) in
-      let rest = steps_text t (run_from t (next t s c).state (drop (i + 1) cs)) in
-      let end = end_line (counts_of (length (run_from t start cs)) (all_verdicts (run_from t start cs))) in
+      let front = flat_map (step_acts save t) (run_from t start (take i cs)) in
+      let step = step_acts save t (done_by t s c) in
+      let rest = flat_map (step_acts save t) (run_from t (next t s c).state (drop (i + 1) cs)) in
+      let end = prints (end_line (counts_of (length (run_from t start cs)) (all_verdicts (run_from t start cs)))) in
       let whole : cs ≡ take i cs ++ c ∷ drop (i + 1) cs = sym (take-append-drop i cs) ∙ ap (λ ys. take i cs ++ ys) (drop_more cs i d within) in
-      let steps : steps_text t (run_from t start cs) ≡ front ++ (line ++ rest) = ap (λ xs. steps_text t (run_from t start xs)) whole ∙ text_front t start (take i cs) c (drop (i + 1) cs) in (
+      let steps : flat_map (step_acts save t) (run_from t start cs) ≡ front ++ (step ++ rest) =
+      ap (λ xs. flat_map (step_acts save t) (run_from t start xs)) whole ∙ acts_front save t start (take i cs) c (drop (i + 1) cs) in
+      let behind : (front ++ (step ++ rest)) ++ end ≡ front ++ (step ++ (rest ++ end)) =
+      append_assoc front (step ++ rest) end ∙ ap (λ acts. front ++ acts) (append_assoc step rest end) in (
         rest ++ end,
-        ap (λ text. text ++ end) steps ∙ (append_assoc front (line ++ rest) end ∙ ap (λ text. front ++ text) (append_assoc line rest end)),
+        ap (λ acts. opening save ++ (acts ++ end)) steps
+            ∙ (ap (λ acts. opening save ++ acts) behind ∙ sym (append_assoc (opening save) front (step ++ (rest ++ end)))),
       )
 
+-- all acts begin with the opening
+pub run_opening : (save : Option (List ℕ)) (t : Network) (cs : List Command) → (more : List Act) × (run_acts save t (run t cs) ≡ opening save ++ more)
+unfolding run_acts
+run_opening save t cs = (_, refl)
+
 -- the end of the report
-pub run_whole : (t : Network) (cs : List Command) (i : ℕ) (c : Counts) → length cs ≤ i → c ≡ counts_of 0 (all_verdicts (run_from t start (take i cs)))
-    → run_text t (run t cs) ≡ steps_text t (run_from t start (take i cs)) ++ end_line (record c { steps = length cs })
-unfolding run_text run
-run_whole t cs i c past is =
+pub run_whole : (save : Option (List ℕ)) (t : Network) (cs : List Command) (i : ℕ) (c : Counts) → length cs ≤ i → c ≡ counts_of 0 (all_verdicts (run_from t start (take i cs)))
+    → run_acts save t (run t cs) ≡ acts_until save t cs i ++ prints (end_line (record c { steps = length cs }))
+unfolding run_acts run
+run_whole save t cs i c past is =
     let all : take i cs ≡ cs = take_all i cs past in
     let counts : c ≡ counts_of 0 (all_verdicts (run_from t start cs)) = is ∙ ap (λ xs. counts_of 0 (all_verdicts (run_from t start xs))) all in
     let ended : end_line (record c { steps = length cs }) ≡ end_line (counts_of (length (run_from t start cs)) (all_verdicts (run_from t start cs))) =
     ap (λ (k : Counts). end_line (record k { steps = length cs })) counts
     ∙ ap (λ n. end_line (counts_of n (all_verdicts (run_from t start cs)))) (sym (length-run_from t start cs)) in
-    rw (all, ended) refl
+    rw (all, ended) (sym (append_assoc (opening save) (flat_map (step_acts save t) (run_from t start cs)) (prints (end_line (counts_of (length (run_from t start cs)) (all_verdicts (run_from t start cs)))))))
 
 pub run_alarms : (t : Network) (cs : List Command) (i : ℕ) (c : Counts) → length cs ≤ i → c ≡ counts_of 0 (all_verdicts (run_from t start (take i cs)))
     → (ltb 0 c.forged || ltb 0 c.collided) ≡ has_alarm (run t cs)

@@ -35,6 +35,16 @@ pub data Act : Type 0 where
 unfoldable pub prints : List ℕ → List Act
 prints text = map Print text
 
+-- a file is made empty, if one is named
+unfoldable pub creates : Option (List ℕ) → List Act
+creates None = []
+creates (Some name) = Create name ∷ []
+
+-- a text is added at the end of a file, if one is named
+unfoldable pub appends : Option (List ℕ) → List ℕ → List Act
+appends None text = []
+appends (Some name) text = map (Append name) text
+
 -- ---- acts that were done
 
 -- what acts write to the output

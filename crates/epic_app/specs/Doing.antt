@@ -10,14 +10,15 @@ use Rattle.epic_text.specs.RunScript.{run_rule}
 use Rattle.epic_text.specs.Script.{Fault, Rule, commands_of}
 use Rattle.epic_world.specs.Run.{Done, run}
 use Rattle.epic_app.specs.declared.hop_file.HopCommand.{HopCommand}
-use Rattle.epic_app.specs.Acts.{Act, prints}
+use Rattle.epic_app.specs.Acts.{Act, appends, prints}
 use Rattle.epic_app.specs.FaultLines.{fault_line, long_topology_line, read_line, too_long_line, topology_line}
 use Rattle.epic_app.specs.HopFile.{hop_rule}
 use Rattle.epic_app.specs.HopReport.{answers, hop_report, is_forged}
 use Rattle.epic_app.specs.Limits.{file_limit, script_limit, topology_limit}
 use Rattle.epic_app.specs.Readings.{Reading, Whole, Failed, Unread}
-use Rattle.epic_app.specs.Request.{Request, Hop, Run}
+use Rattle.epic_words.specs.Request.{Request, Hop, Run}
 use Rattle.epic_app.specs.RunReport.{all_verdicts, has_alarm, step_text}
+use Rattle.epic_app.specs.Saved.{opening, saved_in}
 
 pub record Progress : Type 0 where
   -- what it does, in order
@@ -73,19 +74,23 @@ unfoldable pub hop_done : List ℕ → List HopCommand → Progress
 hop_done key commands =
     ends (prints (hop_report key commands)) (alarm_status (nat_lt 0 (count_by is_forged (answers key commands)))) []
 
--- the lines of each step are written, and at the end what the verdicts were
-unfoldable pub steps_acts : Network → List Done → List Act
-steps_acts t steps =
-    flat_map (λ d. prints (step_text t d)) steps ++ prints (end_line (counts_of (length steps) (all_verdicts steps)))
+-- the lines of a step are written, and then what it emitted is saved
+unfoldable pub step_acts : Option (List ℕ) → Network → Done → List Act
+step_acts save t d = prints (step_text t d) ++ appends save (saved_in d)
+
+-- the capture is opened, the steps are done, and at the end the line with the counts is written
+unfoldable pub run_acts : Option (List ℕ) → Network → List Done → List Act
+run_acts save t steps =
+    opening save ++ (flat_map (step_acts save t) steps ++ prints (end_line (counts_of (length steps) (all_verdicts steps))))
 
 -- the script's commands are done one after the other
-unfoldable pub run_done : Network → List Command → Progress
-run_done t commands = ends (steps_acts t (run t commands)) (alarm_status (has_alarm (run t commands))) []
+unfoldable pub run_done : Option (List ℕ) → Network → List Command → Progress
+run_done save t commands = ends (run_acts save t (run t commands)) (alarm_status (has_alarm (run t commands))) []
 
 -- What a command does and how it ends, from a reading of each of its files; they are looked at in order, and the first that
 -- refuses or fails decides.
 unfoldable pub doing : Request → List Reading → Progress
 doing (Hop key name) (file ∷ []) = on_commands name file_limit hop_rule file (hop_done key)
-doing (Run topology script) (first ∷ second ∷ []) =
-    on_topology topology first (λ t. on_commands script script_limit run_rule second (run_done t))
+doing (Run r) (first ∷ second ∷ []) =
+    on_topology r.topology first (λ t. on_commands r.script script_limit run_rule second (run_done r.save t))
 doing request readings = goes_on []

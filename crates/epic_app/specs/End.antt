@@ -1,5 +1,5 @@
 -- How a command's code says that it ended.
-use Rattle.std.specs.Prelude.{◌≡◌, ℕ, if◌then◌else◌, Bool, List, [], Option, Some, None, Result, Ok, Err, Contains, ⊤}
+use Rattle.std.specs.Prelude.{◌≡◌, ℕ, if◌then◌else◌, Bool, List, [], Option, Some, None, Result, Ok, Err, Contains, IsTrue, codes, ◌⊎◌, ⊤}
 use Rattle.epic_ports.specs.Faults.{Rose}
 use Rattle.epic_ports.specs.declared.error.PortError.{PortError}
 use Rattle.epic_ports.specs.declared.error.PortError.TheVariants as port_error
@@ -10,7 +10,7 @@ use Rattle.epic_app.specs.Doing.{Progress, doing}
 use Rattle.epic_app.specs.FaultLines.{words_line, topology_line, long_topology_line, fault_line, too_long_line, read_line, write_line, memory_line}
 use Rattle.epic_app.specs.Outcome.{CountsStay, FilesStay, WriteRose}
 use Rattle.epic_app.specs.Readings.{Reading, AreRead}
-use Rattle.epic_app.specs.Request.{Request, reads_of}
+use Rattle.epic_words.specs.Request.{Request, is_command, reads_of}
 
 abbrev pub status_of : End → ℕ
 status_of (Done forged) = if forged then 1 else 0
@@ -61,10 +61,11 @@ pub record EndsAs (request : Request) (old new : World) (end : End) : Type 0 whe
   pub counts : CountsStay request old new
   pub files : FilesStay request old.contents new.contents
 
--- the words were refused, and nothing was done, or what they ask for ended so
-abbrev pub Performs : Option Request → World → World → End → Type 0
-Performs None old new end = (end ≡ BadWords) × (new ≡ old)
-Performs (Some request) old new end = EndsAs request old new end
+-- nothing was done where the words are no command, or memory was wanting for reading them after `run`; else what they ask for ended so
+abbrev pub EndsFor : List (List ℕ) → Option Request → World → World → End → Type 0
+EndsFor words None old new end =
+    (new ≡ old) × ((end ≡ BadWords) ⊎ ((end ≡ OutOfMemory) × IsTrue (is_command (codes "run") words)))
+EndsFor words (Some request) old new end = EndsAs request old new end
 
 -- the end of a command that answers this to the writing of its report
 abbrev pub end_after : Result Bool PortError → End

@@ -1,22 +1,13 @@
 -- Private: serves proofs of this crate alone; no public contract cites it.
 -- What a file that was read leads to: a value, or an end of the command.
 use Rattle.std.specs.Prelude.{◌≡◌, ℕ, List, [], Option, Result, Ok, Err, IfErr, true, ⊤}
-use Rattle.epic_num.specs.declared.command.Command.{Command}
 use Rattle.epic_ports.specs.Faults.{Rose}
 use Rattle.epic_ports.specs.Files.{Files}
-use Rattle.epic_world.specs.Next.{is_taken, HasMoment}
-use Rattle.epic_world.specs.Sound.{CarriesBytes}
 use Rattle.epic_app.specs.declared.end.End.{End}
 use Rattle.epic_app.specs.declared.end.End.TheVariants.{Done, BadWords, ReadFault, WriteFault, OutOfMemory}
 use Rattle.epic_app.specs.Doing.{Progress, ends, goes_on}
 use Rattle.epic_app.specs.End.{status_of, line_of}
 use Rattle.epic_app.specs.Readings.{Reading, IsReading}
-
--- a world takes the command, which is in its ranges
-pub record IsTakenUp (c : Command) : Type 0 where
-  pub taken : is_taken c ≡ true
-  pub moment : HasMoment c
-  pub bytes : CarriesBytes c
 
 -- what follows from a value, or from an end in its place
 abbrev pub follows : {X : Type 0} → Result X End → (X → Progress) → Progress

@@ -7,10 +7,13 @@ pub mod FilesRead
 pub mod HopFile
 pub mod HopReport
 pub mod Limits
+pub mod Performing
 pub mod Outcome
 pub mod Readings
-pub mod Request
 pub mod RunReport
+pub mod Saved
+pub mod SavedFile
+pub mod Served
 pub mod Spelling
 pub mod StepLines
 pub mod Writing

@@ -1,13 +1,14 @@
 -- How a command may end: the contract of the top call. A new command changes nothing here.
-use Rattle.std.specs.Prelude.{◌≡◌, ℕ, ◌<◌, ◌⊎◌, List, ◌++◌, Option, Some, None, Contains, ⊤}
+use Rattle.std.specs.Prelude.{◌≡◌, ℕ, ◌<◌, ◌⊎◌, List, ◌++◌, Option, Some, None, Contains, IsTrue, codes, ⊤}
 use Rattle.epic_ports.specs.Faults.{Rose}
 use Rattle.epic_ports.specs.Files.{Files}
 use Rattle.epic_ports.specs.Written.{Appends, WritesBefore}
 use Rattle.epic_app.specs.Acts.{World, Does, StopsAt, StopsBefore}
 use Rattle.epic_app.specs.Doing.{Progress, doing}
 use Rattle.epic_app.specs.FaultLines.{memory_line, words_line, write_line}
+use Rattle.epic_app.specs.Served.{asked}
 use Rattle.epic_app.specs.Readings.{Reading, AreRead}
-use Rattle.epic_app.specs.Request.{Request, request_of, reads_of, writes_of}
+use Rattle.epic_words.specs.Request.{Request, is_command, reads_of, writes_of}
 
 -- the sink of errors
 pub record ErrorSink : Type 0 where
@@ -85,16 +86,16 @@ pub record EndsWith (request : Request) (old new : World) (e f : ErrorSink) (sta
   pub counts : CountsStay request old new
   pub files : FilesStay request old.contents new.contents
 
--- the words are no command
-pub record RefusesWords (old new : World) (e f : ErrorSink) (status : ℕ) : Type 0 where
-  pub is_status : status ≡ 2
-  pub same : new ≡ old
-  pub line : Tells e f words_line
+-- the words are no command; or, where the first of them is `run`, memory was wanting for reading them
+abbrev pub Refuses : List (List ℕ) → ErrorSink → ErrorSink → ℕ → Type 0
+Refuses words e f status =
+    ((status ≡ 2) × Tells e f words_line)
+    ⊎ ((status ≡ 8) × IsTrue (is_command (codes "run") words) × Tells e f memory_line)
 
-abbrev pub EndsUnder : Option Request → World → World → ErrorSink → ErrorSink → ℕ → Type 0
-EndsUnder None old new e f status = RefusesWords old new e f status
-EndsUnder (Some request) old new e f status = EndsWith request old new e f status
+abbrev pub EndsUnder : List (List ℕ) → Option Request → World → World → ErrorSink → ErrorSink → ℕ → Type 0
+EndsUnder words None old new e f status = (new ≡ old) × Refuses words e f status
+EndsUnder words (Some request) old new e f status = EndsWith request old new e f status
 
 -- the words of a command line, the world and the errors before and after it, and its status
 abbrev pub Ends : List (List ℕ) → World → World → ErrorSink → ErrorSink → ℕ → Type 0
-Ends words old new e f status = EndsUnder (request_of words) old new e f status
+Ends words old new e f status = EndsUnder words (asked words) old new e f status

@@ -1,22 +1,16 @@
 -- The report of a run: the lines of its steps in order, and the counts of its verdicts.
 use Rattle.std.specs.Prelude.{ℕ, ◌||◌, Bool, List, [], ◌++◌, length, flat_map}
 use Rattle.std.specs.List.{list_any}
-use Rattle.std.specs.Option.{option_map_or}
 use Rattle.epic_num.specs.declared.answer.Answer.{Answer}
 use Rattle.epic_num.specs.declared.answer.Answer.TheVariants.{Passed, Carried}
 use Rattle.epic_num.specs.declared.command.Command.{Command}
 use Rattle.epic_num.specs.declared.verdict.Verdict.{Verdict}
 use Rattle.epic_topo.specs.Network.{Network}
 use Rattle.epic_ledger.specs.Facts.{issues_in}
-use Rattle.epic_ledger.specs.History.{Emission, emission_at}
+use Rattle.epic_model.specs.State.{State}
 use Rattle.epic_world.specs.Run.{Done}
-use Rattle.epic_world.specs.State.{State}
 use Rattle.epic_text.specs.Counts.{counts_of, end_line, is_forged, is_collided}
-use Rattle.epic_text.specs.Report.{answer_text, issued_name, bytes_in}
-
--- the bytes of an emission, none where it isn't there
-unfoldable pub emission_bytes : List Emission → ℕ → List ℕ
-emission_bytes emissions number = option_map_or (λ e. e.bytes) (emission_at emissions number) []
+use Rattle.epic_text.specs.Report.{answer_text, bytes_in, emission_bytes, issued_name}
 
 -- the lines of an answer, over what was issued and emitted by then
 unfoldable pub answered_text : Network → Command → Answer → State → List ℕ

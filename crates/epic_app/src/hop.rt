@@ -2,7 +2,7 @@
 
 ghost use Rattle.epic_app.specs.Acts.{world};
 ghost use Rattle.epic_app.specs.End.{EndsAs};
-ghost use Rattle.epic_app.specs.Request.{Hop};
+ghost use Rattle.epic_words.specs.Request.{Hop};
 
 use crate::end::{End, ended};
 use crate::files::commands_in;

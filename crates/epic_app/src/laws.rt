@@ -1,16 +1,11 @@
-//! What holds of every run that is reported.
+//! What holds of every run that saves.
 
-ghost use Rattle.epic_app.specs.Claims.{RunsHold};
+ghost use Rattle.epic_app.specs.SavedFile.{SavedIsWhole};
 
-use epic_audit::{ledgers, whole_chains};
-use epic_world::runs_are_sound;
-
-/// A law: each step of a run goes on from a state whose ledger is lawful and kept and whose segments are whole, so does the
-/// end of the run, and each verdict is true over the ledger before its step.
-pub fn runs_hold()
-    ensures { RunsHold }
-{
-    runs_are_sound();
-    whole_chains();
-    ledgers();
-}
+/// A law: the file that a run saves is a capture of what its steps emitted, in order, once all its
+/// acts were done. Before that it is a front of the capture, or what it was before the run. No
+/// other file changes.
+#[tactic(auto, using(crate::proofs::SavingLaws::saved_is_whole))]
+pub fn saved_is_whole()
+    ensures { SavedIsWhole }
+{}

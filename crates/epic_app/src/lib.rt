@@ -10,11 +10,12 @@ mod hop_report;
 mod laws;
 mod run;
 mod run_report;
+mod saving;
 mod spelling;
 mod top;
-mod words;
 mod writing;
 
+pub use laws::saved_is_whole;
 pub use top::epic;
 
 #[cfg(test)]

@@ -1,91 +1,26 @@
 //! The report of a run, step by step.
 
-ghost use Rattle.std.specs.Prelude.{ℕ, List, false, ◌≡◌, ◌+◌, ◌-◌, ◌^◌, ◌<◌, ◌≤◌, All, IsTrue, IfOk, OnOk, OnErr, length, nat_lt, ◌||◌};
-ghost use Rattle.epic_audit.specs.Kept.{Kept};
-ghost use Rattle.epic_ledger.specs.Facts.{facts_of, issues_in};
+ghost use Rattle.std.specs.Prelude.{◌≡◌, ◌+◌, ◌-◌, ◌^◌, ◌<◌, ◌≤◌, All, IfOk, OnOk, flat_map, length, nat_lt, option_map, ◌||◌};
 ghost use Rattle.epic_text.specs.Counts.{counts_of, end_line, total};
-ghost use Rattle.epic_text.specs.Report.{IsToldAnswer, Shows, bytes_in, issued_name};
-ghost use Rattle.epic_world.specs.Next.{is_taken, next};
+ghost use Rattle.epic_text.specs.Report.{IsToldAnswer, bytes_in, emission_bytes};
+ghost use Rattle.epic_model.specs.Steps.{next};
 ghost use Rattle.epic_world.specs.Run.{done_by, run};
-ghost use Rattle.epic_app.specs.FilesRead.{IsTakenUp};
-ghost use Rattle.epic_app.specs.RunReport.{answered_text, emission_bytes, has_alarm, run_text, step_text, verdicts_in};
-ghost use Rattle.epic_app.specs.StepLines.{ShowsBytes, count_all, is_carried, issued_in};
+ghost use Rattle.epic_world.specs.Stepped.{IsPossible};
+ghost use Rattle.epic_app.specs.Acts as acts;
+ghost use Rattle.epic_app.specs.Doing.{run_acts, step_acts};
+ghost use Rattle.epic_app.specs.Performing.{Performs, Stays};
+ghost use Rattle.epic_app.specs.RunReport.{answered_text, has_alarm, verdicts_in};
+ghost use Rattle.epic_app.specs.StepLines.{count_all};
 ghost use Rattle.epic_app.specs.Writing.{Writes};
 
+use crate::saving::{open_saved, records_text, save_text};
 use crate::writing::write_text;
-use epic_ledger::Ledger;
-use epic_num::{Answer, Command, HopName, OutOfMemory, Verdict};
-use epic_ports::{PortError, Sink};
-use epic_text::{Counts, Shown, counted, print_answer, print_end};
+use epic_num::{Answer, Command, OutOfMemory, Passed, Verdict};
+use epic_ports::{PortError, Sink, Store};
+use epic_text::{Counts, bytes_in, counted, print_answer, print_end};
 use epic_topo::Topology;
-use epic_world::World;
+use epic_world::{World, fits};
 use std::alloc::Global;
-
-/// The bytes that a command brings to a router; none where it brings none.
-#[tactic(auto, unfolding(epic_world::specs::Next::is_taken, epic_text::specs::Report::bytes_in))]
-fn came(command: &Command) -> &[u8]
-    requires taken { IsTrue (is_taken command.now) }
-    ensures { (emissions : ℕ → List ℕ) → result.now ≡ bytes_in emissions command.now }
-{
-    match command {
-        Command::Turn { bytes, .. } => bytes.as_slice(),
-        _ => &[],
-    }
-}
-
-/// The name of the hop that an answer says was issued.
-#[tactic(auto, unfolding(crate::specs::StepLines::issued_in, epic_num::specs::Chains::name_of, epic_ledger::specs::Facts::facts_of))]
-fn issued(ledger: &Ledger, answer: &Answer) -> Option<HopName>
-    ensures { result ≡ issued_in (issues_in ledger.now.history.events) answer.now }
-{
-    match answer {
-        Answer::Issued { no } => match ledger.issue(*no) {
-            Some((name, _)) => Some(name),
-            None => None,
-        },
-        _ => None,
-    }
-}
-
-/// The bytes of the emission of a number, none where it isn't there.
-#[tactic(auto, unfolding(crate::specs::RunReport::emission_bytes))]
-fn bytes_of(ledger: &Ledger, emission: u32) -> &[u8]
-    ensures { result.now ≡ emission_bytes ledger.now.history.emissions emission }
-{
-    match ledger.emission(emission) {
-        Some((_, bytes)) => bytes,
-        None => &[],
-    }
-}
-
-/// The bytes of the emission that an answer tells of, none where it tells of none.
-fn emitted<'a>(ledger: &'a Ledger, answer: &Answer) -> &'a [u8]
-    ensures { ShowsBytes (emission_bytes ledger.now.history.emissions) result.now answer.now }
-{
-    match answer {
-        Answer::Sent { emission, .. } => bytes_of(ledger, *emission),
-        Answer::Passed(passed) => bytes_of(ledger, passed.emission),
-        _ => &[],
-    }
-}
-
-/// What the lines of a step show besides its answer.
-#[tactic(auto, using(crate::proofs::Told::shows))]
-fn shown<'a>(ledger: &'a Ledger, command: &'a Command, answer: &Answer) -> Shown<'a>
-    requires taken { IsTrue (is_taken command.now) }
-    requires alone { is_carried answer.now ≡ false }
-    ensures shows { Shows (issued_name (issues_in ledger.now.history.events))
-        (emission_bytes ledger.now.history.emissions)
-        result.issued result.emitted.now answer.now }
-    ensures issued { result.issued ≡ issued_in (issues_in ledger.now.history.events) answer.now }
-    ensures came { (emissions : ℕ → List ℕ) → result.came.now ≡ bytes_in emissions command.now }
-{
-    Shown {
-        issued: issued(ledger, answer),
-        came: came(command),
-        emitted: emitted(ledger, answer),
-    }
-}
 
 /// The lines of a step that was done, after which the world is this.
 fn step_lines(
@@ -94,17 +29,22 @@ fn step_lines(
     command: &Command,
     answer: &Answer,
 ) -> Result<Vec<u8>, OutOfMemory>
-    requires taken { IsTrue (is_taken command.now) }
-    requires alone { is_carried answer.now ≡ false }
-    requires told { (emissions : ℕ → List ℕ) → IsToldAnswer world.now.network
-        (issued_in (issues_in world.now.state.history.events) answer.now)
-        (bytes_in emissions command.now) answer.now }
+    requires { IsToldAnswer world.now.network world.now.state.history
+        (bytes_in (emission_bytes world.now.state.history.emissions) command.now) answer.now }
     ensures { IfOk result (λ text. text.items ≡
         answered_text world.now.network command.now answer.now world.now.state) }
 {
-    let shown = shown(world.ledger(), command, answer);
+    let ledger = world.ledger();
+    let came = bytes_in(ledger, command);
     let mut text = Vec::new(alloc);
-    print_answer(&mut text, world.steps(), world.topology(), &shown, answer)?;
+    print_answer(
+        &mut text,
+        world.steps(),
+        world.topology(),
+        ledger,
+        came,
+        answer,
+    )?;
     Ok(text)
 }
 
@@ -121,29 +61,45 @@ fn count_each(counts: Counts, verdicts: &[Verdict]) -> Counts
     counts
 }
 
+/// The counts with the verdicts of passes.
+fn count_passes(counts: Counts, passes: &[Passed]) -> Counts
+    requires few { total counts + length (flat_map (λ p. p.verdicts.items) passes.now) < 2 ^ 64 - 1 }
+    ensures value { result ≡ count_all counts (flat_map (λ p. p.verdicts.items) passes.now) }
+    ensures total { total result ≡ total counts + length (flat_map (λ p. p.verdicts.items) passes.now) }
+{
+    let mut counts = counts;
+    for passed in passes {
+        counts = count_each(counts, passed.verdicts.as_slice());
+    }
+    counts
+}
+
 /// The counts with the verdicts of an answer.
 #[tactic(auto, unfolding(crate::specs::RunReport::verdicts_in, crate::specs::StepLines::count_all))]
 fn count(counts: Counts, answer: &Answer) -> Counts
-    requires alone { is_carried answer.now ≡ false }
-    requires few { total counts < 2 ^ 63 }
+    requires few { total counts + length (verdicts_in answer.now) < 2 ^ 64 - 1 }
     ensures value { result ≡ count_all counts (verdicts_in answer.now) }
-    ensures total { total result ≤ total counts + 2 }
+    ensures total { total result ≡ total counts + length (verdicts_in answer.now) }
 {
     match answer {
         Answer::Passed(passed) => count_each(counts, passed.verdicts.as_slice()),
+        Answer::Carried(passes) => count_passes(counts, passes.as_slice()),
         _ => counts,
     }
 }
 
-/// Does a command, and writes its lines.
-fn write_step<O: Sink>(
+/// Does a command, writes its lines, and then adds what it emitted to the saved file, if there is
+/// one.
+fn write_step<S: Store, O: Sink>(
     alloc: Global,
     world: &mut World,
     command: &Command,
     counts: Counts,
+    save: Option<&str>,
+    store: &mut S,
     out: &mut O,
 ) -> Result<Counts, PortError>
-    requires taken { IsTakenUp command.now }
+    requires possible { IsPossible command.now }
     requires few { world.old.state.steps < 2 ^ 30 - 1 }
     requires room { total counts < 2 ^ 63 }
     ensures network { world.new.network ≡ world.old.network }
@@ -151,23 +107,35 @@ fn write_step<O: Sink>(
         (next world.old.network world.old.state command.now).state) }
     ensures counts { IfOk result (λ c. c ≡
         count_all counts (verdicts_in (next world.old.network world.old.state command.now).answer)) }
-    ensures total { IfOk result (λ c. total c ≤ total counts + 2) }
-    ensures text { Writes (step_text world.old.network (done_by world.old.network world.old.state command.now))
-        (O.written out.old) (O.written out.new) (O.faults out.old) (O.faults out.new) result }
-    ensures later { O.faults out.old ≤ O.faults out.new }
+    ensures total { IfOk result (λ c. total c ≤ total counts + 66) }
+    ensures performs { Performs (option_map (λ name. name.now) save.entry)
+        (step_acts (option_map (λ name. name.now) save.entry) world.old.network
+        (done_by world.old.network world.old.state command.now))
+        (acts.world (S.contents store.old) (S.reads store.old) (S.writes store.old)
+        (O.written out.old) (O.faults out.old))
+        (acts.world (S.contents store.new) (S.reads store.new) (S.writes store.new)
+        (O.written out.new) (O.faults out.new))
+        result }
+    ensures stays { Stays (option_map (λ name. name.now) save.entry)
+        (acts.world (S.contents store.old) (S.reads store.old) (S.writes store.old)
+        (O.written out.old) (O.faults out.old))
+        (acts.world (S.contents store.new) (S.reads store.new) (S.writes store.new)
+        (O.written out.new) (O.faults out.new)) }
 {
-    // Before the step and after it the ledger is kept, so that the answer can be told.
-    let _ = world.ledger();
+    let _profile = world.topology().profile();
+    fits(command);
+    let before = world.ledger().emissions();
     let answer = match world.step(alloc, command) {
         Ok(answer) => answer,
         Err(OutOfMemory) => return Err(PortError::OutOfMemory),
     };
-    let _ = world.ledger();
     let text = match step_lines(alloc, world, command, &answer) {
         Ok(text) => text,
         Err(OutOfMemory) => return Err(PortError::OutOfMemory),
     };
+    let records = records_text(alloc, world.ledger(), before, world.now())?;
     write_text(&text, out)?;
+    save_text(save, &records, store)?;
     Ok(count(counts, &answer))
 }
 
@@ -192,26 +160,40 @@ fn tells_alarm(counts: &Counts) -> bool
     counts.forged > 0 || counts.collided > 0
 }
 
-/// Does the commands one after the other over a topology, and writes the lines of each before the next is done.
+/// Opens the saved file, if there is one, and does the commands one after the other over a
+/// topology. The lines of each are written, and what it emitted is saved, before the next is done.
 ///
-/// Answers whether some verdict is forged or collided. `PortError::Failed` comes only where `out` counted a failed write.
-pub fn write_run<O: Sink>(
+/// Answers whether some verdict is forged or collided. `PortError::Failed` comes only where `out`
+/// or the saved file counted a failed write.
+pub fn write_run<S: Store, O: Sink>(
     alloc: Global,
     topo: Topology,
     commands: &[Command],
+    save: Option<&str>,
+    store: &mut S,
     out: &mut O,
 ) -> Result<bool, PortError>
-    requires taken { All IsTakenUp commands.now }
+    requires possible { All IsPossible commands.now }
     requires few { length commands.now ≤ 524288 }
-    ensures text { Writes (run_text topo (run topo commands.now))
-        (O.written out.old) (O.written out.new) (O.faults out.old) (O.faults out.new) result }
+    ensures performs { Performs (option_map (λ name. name.now) save.entry)
+        (run_acts (option_map (λ name. name.now) save.entry) topo (run topo commands.now))
+        (acts.world (S.contents store.old) (S.reads store.old) (S.writes store.old)
+        (O.written out.old) (O.faults out.old))
+        (acts.world (S.contents store.new) (S.reads store.new) (S.writes store.new)
+        (O.written out.new) (O.faults out.new))
+        result }
     ensures forged { IfOk result (λ forged. forged ≡ has_alarm (run topo commands.now)) }
-    ensures later { O.faults out.old ≤ O.faults out.new }
+    ensures stays { Stays (option_map (λ name. name.now) save.entry)
+        (acts.world (S.contents store.old) (S.reads store.old) (S.writes store.old)
+        (O.written out.old) (O.faults out.old))
+        (acts.world (S.contents store.new) (S.reads store.new) (S.writes store.new)
+        (O.written out.new) (O.faults out.new)) }
 {
+    open_saved(save, store)?;
     let mut world = World::new(alloc, topo);
     let mut counts = Counts::default();
     for command in commands {
-        counts = write_step(alloc, &mut world, command, counts, out)?;
+        counts = write_step(alloc, &mut world, command, counts, save, store, out)?;
     }
     let counts = Counts {
         steps: commands.len() as u32,

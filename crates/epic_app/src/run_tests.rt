@@ -6,7 +6,8 @@ use std::alloc::Global;
 use std::process::Abort;
 use std::test::Fail;
 
-// Six ASes in two isolation trees below core ASes that are linked. The expected reports were computed by another program.
+// Six ASes in two isolation trees below core ASes that are linked. The expected reports were
+// computed by another program.
 const TOPOLOGY: &str =
     "[[as]]\nname='1-ff00:0:110'\ncore=true\nkey='01010101010101010101010101010101'\n\
     [[as]]\nname='1-ff00:0:120'\ncore=true\nkey='02020202020202020202020202020202'\n\
@@ -22,10 +23,11 @@ const TOPOLOGY: &str =
 
 const SPARE: usize = 8192;
 
-/// The status of a run, and what the output and the errors got.
+/// The status of a run, the files after it, and what the output and the errors got.
 #[derive(Drop)]
 struct Run {
     status: u8,
+    store: NamedStore,
     out: MemSink,
     err: MemSink,
 }
@@ -33,8 +35,9 @@ struct Run {
 /// Which calls fail.
 #[derive(Clone, Copy)]
 struct Faults<'a> {
-    /// The first read of this file, if it is there.
+    /// The first call that names this file, if any, or the first append to it.
     file: &'a str,
+    appends: bool,
     /// The write of this number, counted from 1.
     write: u64,
     /// The write of this number to the errors.
@@ -43,20 +46,25 @@ struct Faults<'a> {
 
 const NO_FAULTS: Faults<'static> = Faults {
     file: "",
+    appends: false,
     write: 0,
     tell: 0,
 };
 
-/// `run t s` over a store with these two files.
+/// `run t s`, with further words, over a store with these two files.
 fn run_files(
     rt: &impl Abort,
     alloc: Global,
+    options: &[&str],
     topology: &[u8],
     script: &[u8],
     faults: &Faults<'_>,
 ) -> Result<Run, Fail> {
     let mut given = Vec::new(alloc);
     for word in ["run", "t", "s"] {
+        given.push(String::from_str(alloc, word)?)?;
+    }
+    for word in options {
         given.push(String::from_str(alloc, word)?)?;
     }
     let mut files = Vec::new(alloc);
@@ -68,7 +76,7 @@ fn run_files(
     }
     assert!(rt; MemStore::names_differ(files.as_slice()));
     let below = MemStore::new(files, Vec::new(alloc));
-    let mut store = NamedStore::new(below, String::from_str(alloc, faults.file)?, false);
+    let mut store = NamedStore::new(below, String::from_str(alloc, faults.file)?, faults.appends);
     let mut out = MemSink::new(
         alloc,
         SPARE,
@@ -77,7 +85,12 @@ fn run_files(
     )?;
     let mut err = MemSink::new(alloc, SPARE, SPARE, Vec::from_slice(alloc, &[faults.tell])?)?;
     let status = epic(alloc, &given, &mut store, &mut out, &mut err);
-    Ok(Run { status, out, err })
+    Ok(Run {
+        status,
+        store,
+        out,
+        err,
+    })
 }
 
 #[test]
@@ -261,6 +274,7 @@ fn reports_of_run(rt: HostRuntime) -> Result<(), Fail> {
         let run = run_files(
             &rt,
             rt.alloc(),
+            &[],
             TOPOLOGY.as_bytes(),
             script.as_bytes(),
             &NO_FAULTS,
@@ -304,6 +318,7 @@ fn runs_that_are_refused(rt: HostRuntime) -> Result<(), Fail> {
         let run = run_files(
             &rt,
             rt.alloc(),
+            &[],
             topology.as_bytes(),
             script.as_bytes(),
             &NO_FAULTS,
@@ -317,7 +332,7 @@ fn runs_that_are_refused(rt: HostRuntime) -> Result<(), Fail> {
         (1_048_577, 3, "epic: topology too-long text 0\n"),
     ] {
         let topology = vec![in rt.alloc(); b'#'; length]?;
-        let run = run_files(&rt, rt.alloc(), &topology, b"", &NO_FAULTS)?;
+        let run = run_files(&rt, rt.alloc(), &[], &topology, b"", &NO_FAULTS)?;
         assert_eq!(rt; run.err.written(), err.as_bytes());
         assert_eq!(rt; run.status, status);
     }
@@ -363,6 +378,7 @@ fn calls_of_run_that_fail(rt: HostRuntime) -> Result<(), Fail> {
         let run = run_files(
             &rt,
             rt.alloc(),
+            &[],
             TOPOLOGY.as_bytes(),
             script.as_bytes(),
             &faults,
@@ -370,6 +386,52 @@ fn calls_of_run_that_fail(rt: HostRuntime) -> Result<(), Fail> {
         assert_eq!(rt; run.out.written(), out.as_bytes(), "{script}");
         assert_eq!(rt; run.err.written(), err.as_bytes(), "{script}");
         assert_eq!(rt; run.status, status, "{script}");
+    }
+    Ok(())
+}
+
+// Hops of a path, and a packet of level 0 over it.
+const SENDING: &str = "at 1700000000000000\n\
+    originate 1-ff00:0:110 2 63\n\
+    extend 1 2 63\n\
+    extend 2 0 63\n\
+    turn 1-ff00:0:112 0 e0000060000001000001ff00000001120001ff000000011000000001000000030000000000000000010300006553f1003f00010000f02fdcef5be861973095d23f000100025fc8567cf27d6859545a3e3f000000020000000000000000c11c94\n";
+
+// The header of a capture; and it with a record of the packet, due at interface 2 of 1-ff00:0:111.
+const HEAD: &str = "d4c3b2a1020004000000000000000000ffff000093000000";
+
+const WHOLE: &str =
+    "d4c3b2a1020004000000000000000000ffff00009300000000f153650000000070000000700000000001ff00000001110000000200000000e0000060000001010001ff00000001120001ff000000011000000001000000030000000000000000010300006553f1003f00010000f02fdcef5be861973095d23f000100025fc8567cf27d6859545a3e3f000000020000000000000000c11c94";
+
+#[test]
+fn runs_that_save(rt: HostRuntime) -> Result<(), Fail> {
+    let write = |write| Faults { write, ..NO_FAULTS };
+    let file = |appends| Faults {
+        file: "w",
+        appends,
+        ..NO_FAULTS
+    };
+    for (faults, status, saved, err) in [
+        (NO_FAULTS, 0, WHOLE, ""),
+        // The packet's lines are written before it is saved, and the counts behind that.
+        (write(4), 7, HEAD, "epic: write\n"),
+        (write(5), 7, WHOLE, "epic: write\n"),
+        // The file can't be made, or takes nothing.
+        (file(false), 7, "", "epic: write\n"),
+        (file(true), 7, "", "epic: write\n"),
+    ] {
+        let run = run_files(
+            &rt,
+            rt.alloc(),
+            &["--save", "w"],
+            TOPOLOGY.as_bytes(),
+            SENDING.as_bytes(),
+            &faults,
+        )?;
+        let held = hex::encode(rt.alloc(), run.store.file("w").unwrap_or(&[]))?;
+        assert_eq!(rt; held.as_str(), saved);
+        assert_eq!(rt; run.err.written(), err.as_bytes());
+        assert_eq!(rt; run.status, status);
     }
     Ok(())
 }

@@ -4,17 +4,18 @@ ghost use Rattle.std.specs.Prelude.{map};
 ghost use Rattle.std.specs.String.{string_bytes};
 ghost use Rattle.epic_app.specs.Acts.{world};
 ghost use Rattle.epic_app.specs.Claims.{ReportHolds};
-ghost use Rattle.epic_app.specs.End.{Performs};
+ghost use Rattle.epic_app.specs.End.{EndsFor};
 ghost use Rattle.epic_app.specs.Limits.{KeepsLimits};
 ghost use Rattle.epic_app.specs.Outcome.{Ends, error_sink};
-ghost use Rattle.epic_app.specs.Request.{request_of};
+ghost use Rattle.epic_app.specs.Served.{asked};
 
 use crate::end::{End, tell};
 use crate::hop::hop;
-use crate::laws::runs_hold;
 use crate::run::run;
-use crate::words::{hop_words, run_words};
 use epic_ports::{Sink, Store};
+use epic_text::commands_are_spelled;
+use epic_words::{Asked, WordsError, asked_for};
+use epic_world::runs_hold;
 use std::alloc::Global;
 
 /// Does what the words ask for, but for what is told to the errors.
@@ -24,28 +25,34 @@ fn perform<'a, S: Store, O: Sink>(
     store: &mut S,
     out: &mut O,
 ) -> End<'a>
-    ensures { Performs (request_of (map string_bytes words.entry.now))
+    ensures { EndsFor (map string_bytes words.entry.now) (asked (map string_bytes words.entry.now))
         (world (S.contents store.old) (S.reads store.old) (S.writes store.old)
         (O.written out.old) (O.faults out.old))
         (world (S.contents store.new) (S.reads store.new) (S.writes store.new)
         (O.written out.new) (O.faults out.new))
         result }
 {
-    if let Some(words) = hop_words(words) {
-        return hop(alloc, &words.key, words.file, store, out);
-    }
-    match run_words(words) {
-        Some(words) => run(alloc, words.topology, words.script, store, out),
-        None => End::BadWords,
+    match asked_for(alloc, words) {
+        Ok(Asked::Hop(words)) => hop(alloc, &words.key, words.file, store, out),
+        Ok(Asked::Run(words)) => {
+            // No capture is read yet.
+            if words.capture.is_some() {
+                return End::BadWords;
+            }
+            run(alloc, &words, store, out)
+        }
+        Err(WordsError::Refused) => End::BadWords,
+        Err(WordsError::OutOfMemory) => End::OutOfMemory,
     }
 }
 
-/// Does what the words after the program's name ask for, over a store of files, an output and a sink
-/// for errors, and answers the status of the process.
+/// Does what the words after the program's name ask for, over a store of files, an output and a
+/// sink for errors, and answers the status of the process.
 ///
-/// 0: the run was done, and no verdict is forged or collided, or no check of `hop` forged; 1: some is. 2: the words are
-/// no command. 3: the topology is refused. 4: the script, or the file of `hop`, is refused. 6: a read failed. 7: a write
-/// failed. 8: memory was wanting. The errors get the line of the status.
+/// 0: the run was done, and no verdict is forged or collided, or no check of `hop` forged; 1: some
+/// is. 2: the words are no command. 3: the topology is refused. 4: the script, or the file of
+/// `hop`, is refused. 6: a read failed. 7: a write failed. 8: memory was wanting. The errors get
+/// the line of the status.
 pub fn epic<S: Store, O: Sink, E: Sink>(
     alloc: Global,
     words: &[String],
@@ -53,10 +60,12 @@ pub fn epic<S: Store, O: Sink, E: Sink>(
     out: &mut O,
     err: &mut E,
 ) -> u8
-    // The report of `run` is that of the script's commands over the topology. Each step goes on from a state
-    // whose ledger is lawful and kept and whose segments are whole, and so does the end of the run. Each verdict
-    // is true over the ledger before its step, and Proved exactly where the hop's provenance stands there. In the
-    // report of `hop` each `accept proved K` names an earlier issue of that body, each `accept forged` is a
+    // The report of `run` is that of the script's commands over the topology. Each step goes on
+    // from a state whose ledger is lawful and kept, in which no router accepted one packet twice
+    // and segments are whole, and so does the end of the run. Each verdict of each passage is true
+    // over the ledger before that passage, and Proved exactly where the provenance stands there;
+    // honest packets are carried. A saved file is a capture of what was emitted. In the report of
+    // `hop` each `accept proved K` names an earlier issue of that body, each `accept forged` is a
     // right field of a body that no earlier line issued, and each refused field is wrong.
     ensures report_holds { ReportHolds (map string_bytes words.now)
         (world (S.contents store.old) (S.reads store.old) (S.writes store.old)
@@ -78,8 +87,9 @@ pub fn epic<S: Store, O: Sink, E: Sink>(
     // The commands of a script, and moments, are within these limits.
     ensures limits { KeepsLimits }
 {
-    // What the report of a run claims rests on this law.
+    // What the report of a run claims rests on these laws.
     runs_hold();
+    commands_are_spelled();
     let end = perform(alloc, words, store, out);
     tell(err, &end);
     end.status()

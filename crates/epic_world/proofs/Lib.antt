@@ -1,7 +1,7 @@
 mod Answering
 mod Carried
 mod CarryGrows
-mod Counted
+pub mod Counted
 mod Gone
 mod Grown
 mod Issued

@@ -12,8 +12,6 @@ mod places;
 mod revealing;
 mod sending;
 mod stepping;
-#[cfg(test)]
-mod tests;
 mod world;
 
 pub use commands::{fits, is_possible};

@@ -1,4 +1,3 @@
-use Rattle.std.proofs.Common.{rules}
 use Rattle.epic_ports.proofs.Appended.{Appends-none}
 use Rattle.epic_app.proofs.CommandEnds.{hop_answered, hop_refused}
 use Rattle.epic_app.proofs.hop.hop.Goals as goal

@@ -1,18 +1,25 @@
 use Rattle.std.proofs.Common.{◌≡◌, ◌≤◌, ◌*◌, take}
-use Rattle.epic_ports.specs.Written.{Appends}
+use Rattle.std.specs.List.{flat_map}
+use Rattle.std.specs.Option.{option_map}
 use Rattle.epic_text.specs.Counts.{counts_of, total}
+use Rattle.epic_model.specs.State.{start}
 use Rattle.epic_world.specs.Run.{run_from, state_after}
-use Rattle.epic_world.specs.State.{start}
-use Rattle.epic_app.specs.RunReport.{steps_text, all_verdicts}
+use Rattle.epic_app.specs.Acts.{Does, world}
+use Rattle.epic_app.specs.Doing.{step_acts}
+use Rattle.epic_app.specs.Performing.{Stays}
+use Rattle.epic_app.specs.RunReport.{all_verdicts}
 use Rattle.epic_app.proofs.run_report.write_run.Given as goal
 
--- the commands so far were done, their lines written, and their verdicts counted
+-- the commands so far were done, with their acts since the capture was opened, and their verdicts counted
 abbrev pub invariant-loop-command : goal.invariant-loop-command
 invariant-loop-command g l =
+    let save = option_map (λ (name : _). name.now) l.save in
+    let before = world (g.S.Store.contents l.initial.store) (g.S.Store.reads l.initial.store) (g.S.Store.writes l.initial.store) (g.O.Sink.written l.initial.out) (g.O.Sink.faults l.initial.out) in
+    let now = world (g.S.Store.contents l.store) (g.S.Store.reads l.store) (g.S.Store.writes l.store) (g.O.Sink.written l.out) (g.O.Sink.faults l.out) in
     (l.world.network ≡ l.fn.topo)
     × (l.world.state ≡ state_after l.fn.topo start (take l.command-index l.commands))
-    × Appends (g.O.Sink.written l.initial.out) (g.O.Sink.written l.out) (steps_text l.fn.topo (run_from l.fn.topo start (take l.command-index l.commands)))
+    × Does (flat_map (step_acts save l.fn.topo) (run_from l.fn.topo start (take l.command-index l.commands))) before now
+    × Stays save before now
     × (l.counts ≡ counts_of 0 (all_verdicts (run_from l.fn.topo start (take l.command-index l.commands))))
     × (l.world.state.steps ≡ l.command-index)
-    × (total l.counts ≤ 2 * l.command-index)
-    × (g.O.Sink.faults l.initial.out ≤ g.O.Sink.faults l.out)
+    × (total l.counts ≤ 66 * l.command-index)

@@ -1,57 +1,133 @@
-use Rattle.std.proofs.Common.{◌≡◌, ℕ, List, [], subst, ◌∙◌, rules}
-use Rattle.epic_ports.specs.Written.{Appends}
-use Rattle.epic_audit.specs.Kept.{Kept}
-use Rattle.epic_ledger.specs.Facts.{facts_of}
-use Rattle.epic_world.specs.Next.{next}
-use Rattle.epic_world.specs.Run.{done_by}
-use Rattle.epic_app.specs.RunReport.{answered_text}
-use Rattle.epic_app.proofs.Told.{told, told_alone}
-use Rattle.epic_app.proofs.WritingLaws.{stops_first, writes_err}
+use Rattle.std.proofs.Common.{rules, ◌≡◌, ℕ, length, Ok, Err, ap, subst, ◌∙◌, arith}
+use Rattle.std.specs.Option.{option_map}
+use Rattle.epic_num.specs.declared.answer.Answer.{Answer}
+use Rattle.epic_ports.specs.declared.error.PortError.TheVariants.{OutOfMemory}
+use Rattle.epic_topo.specs.Lawful.{IsTopology}
+use Rattle.epic_topo.specs.Network.{Network}
+use Rattle.epic_ledger.specs.History.{History}
+use Rattle.epic_model.specs.State.{State}
+use Rattle.epic_model.specs.Steps.{next}
+use Rattle.epic_app.specs.Acts.{world}
+use Rattle.epic_app.specs.RunReport.{answered_text, verdicts_in}
+use Rattle.epic_app.proofs.Acting.{performs_err, stays_both}
+use Rattle.epic_app.proofs.EmissionsGrow.{emissions_grow}
+use Rattle.epic_app.proofs.StepWriting.{lines_are, lines_stopped, records_are, stays_written, step_performed, stopped_same}
+use Rattle.epic_app.proofs.Told.{answers_are_few, answers_are_told}
 use Rattle.epic_app.proofs.run_report.write_step.Goals as goal
 
-pub step_lines-requires-clause-alone : goal.step_lines-requires-clause-alone
-step_lines-requires-clause-alone g c =
+pub returns-in-Err-clause-performs : goal.returns-in-Err-clause-performs
+returns-in-Err-clause-performs g c = stopped_same _ _
+
+pub step_lines-requires : goal.step_lines-requires
+step_lines-requires g c =
     let t = c.args.world.now.network in
     let s = c.args.world.now.state in
-    let after : Kept t (facts_of (next t s c.args.command.now).state.history) = rw (c.in-Ok.ensures.network, c.in-Ok.ensures.step.1) at c.ledger-2.ensures.kept in
-    rw (c.in-Ok.ensures.step.0) (told_alone t _ _ _ (told t s c.args.command.now (λ n. []) c.ledger.ensures.kept after c.requires.taken.taken))
+    let topology = subst (λ (n : Network). IsTopology n) c.topology.ensures c.profile-profile.ensures.lawful in
+    rw (c.in-Ok.ensures.network, c.in-Ok.ensures.step.1, c.in-Ok.ensures.step.0)
+    (answers_are_told t s c.args.command.now topology c.fits.ensures c.ledger.ensures.world)
 
-pub step_lines-requires-clause-told : goal.step_lines-requires-clause-told
-step_lines-requires-clause-told g c = λ emissions.
+pub returns-in-Err-step_lines-clause-performs : goal.returns-in-Err-step_lines-clause-performs
+returns-in-Err-step_lines-clause-performs g c = stopped_same _ _
+
+pub records_text-requires-clause-before : goal.records_text-requires-clause-before
+records_text-requires-clause-before g c =
     let t = c.args.world.now.network in
     let s = c.args.world.now.state in
-    let after : Kept t (facts_of (next t s c.args.command.now).state.history) = rw (c.in-Ok.ensures.network, c.in-Ok.ensures.step.1) at c.ledger-2.ensures.kept in
-    rw (c.in-Ok.ensures.network, c.in-Ok.ensures.step.1, c.in-Ok.ensures.step.0) (told t s c.args.command.now emissions c.ledger.ensures.kept after c.requires.taken.taken)
+    let before = c.emissions-before.ensures
+    ∙ ap (λ (h : History). length h.emissions) c.ledger.ensures.history in
+    let after = ap (λ (h : History). length h.emissions)
+    (c.ledger-2.ensures.history ∙ ap (λ (x : State). x.history) c.in-Ok.ensures.step.1) in
+    omega (arith, before, after, emissions_grow t s c.args.command.now)
 
-pub count-requires-clause-alone : goal.count-requires-clause-alone
-count-requires-clause-alone g c =
-    let t = c.args.world.now.network in
-    let s = c.args.world.now.state in
-    let after : Kept t (facts_of (next t s c.args.command.now).state.history) = rw (c.in-Ok.ensures.network, c.in-Ok.ensures.step.1) at c.ledger-2.ensures.kept in
-    rw (c.in-Ok.ensures.step.0) (told_alone t _ _ _ (told t s c.args.command.now (λ n. []) c.ledger.ensures.kept after c.requires.taken.taken))
+pub returns-in_err-records-clause-performs : goal.returns-in_err-records-clause-performs
+returns-in_err-records-clause-performs g c =
+    performs_err _ _ _ _ _ OutOfMemory (search rules) (stopped_same _ _)
 
-pub returns-in-Err-clause-text : goal.returns-in-Err-clause-text
-returns-in-Err-clause-text g c = stops_first _ _ 0 0
-
-pub returns-in-Err-step_lines-clause-text : goal.returns-in-Err-step_lines-clause-text
-returns-in-Err-step_lines-clause-text g c = stops_first _ _ 0 0
-
-pub returns-in_err-write_text-clause-text : goal.returns-in_err-write_text-clause-text
-unfolding done_by
-returns-in_err-write_text-clause-text g c =
-    let t = c.args.world.now.network in
-    let s = c.args.world.now.state in
-    let n = next t s c.args.command.now in
-    let text : c.deref.result.now ≡ answered_text t c.args.command.now n.answer n.state =
-    c.deref.ensures.value ∙ (rw (c.in-Ok.ensures.network, c.in-Ok.ensures.step.1, c.in-Ok.ensures.step.0) at c.in-Ok-step_lines.ensures) in
-    writes_err _ _ _ _ _ _ c.in_err-write_text.field-0.0 (search rules) (rw text at c.in_err-write_text.ensures.text)
-
-pub returns-clause-text : goal.returns-clause-text
-unfolding done_by
-returns-clause-text g c =
+pub returns-in_err-write_text-clause-performs : goal.returns-in_err-write_text-clause-performs
+returns-in_err-write_text-clause-performs g c =
     let t = c.args.world.now.network in
     let s = c.args.world.now.state in
     let n = next t s c.args.command.now in
     let text : c.deref.result.now ≡ answered_text t c.args.command.now n.answer n.state =
     c.deref.ensures.value ∙ (rw (c.in-Ok.ensures.network, c.in-Ok.ensures.step.1, c.in-Ok.ensures.step.0) at c.in-Ok-step_lines.ensures) in
-    subst (λ (line : List ℕ). Appends (g.O.Sink.written c.args.out.now) (g.O.Sink.written c.write_text.new.out) line) text c.in_ok-write_text.ensures.text
+    let e = c.in_err-write_text.field-0.0 in
+    performs_err _ _ _ _ _ e (search rules)
+    (lines_stopped (option_map (λ (name : _). name.now) c.args.save) t s c.args.command.now
+    (g.S.Store.contents c.args.store.now) (g.S.Store.reads c.args.store.now) (g.S.Store.writes c.args.store.now)
+    (g.O.Sink.written c.args.out.now) (g.O.Sink.written c.write_text.new.out)
+    (g.O.Sink.faults c.args.out.now) (g.O.Sink.faults c.write_text.new.out)
+    c.deref.result.now (lines_are t s c.args.command.now _ text) e c.in_err-write_text.ensures.text)
+
+pub returns-in_err-save_text-clause-performs : goal.returns-in_err-save_text-clause-performs
+returns-in_err-save_text-clause-performs g c =
+    let t = c.args.world.now.network in
+    let s = c.args.world.now.state in
+    let n = next t s c.args.command.now in
+    let text : c.deref.result.now ≡ answered_text t c.args.command.now n.answer n.state =
+    c.deref.ensures.value ∙ (rw (c.in-Ok.ensures.network, c.in-Ok.ensures.step.1, c.in-Ok.ensures.step.0) at c.in-Ok-step_lines.ensures) in
+    let written = g.O.Sink.written c.write_text.new.out in
+    let faults = g.O.Sink.faults c.write_text.new.out in
+    let records = records_are t s c.args.command.now c.deref-2.result.now c.emissions-before.result c.now.result
+    c.ledger-2.result.now.history (c.deref-2.ensures.value ∙ c.in_ok-records.ensures)
+    (c.emissions-before.ensures ∙ ap (λ (h : History). length h.emissions) c.ledger.ensures.history)
+    (c.now.ensures.value ∙ ap (λ (x : State). x.moment) c.in-Ok.ensures.step.1)
+    (c.ledger-2.ensures.history ∙ ap (λ (x : State). x.history) c.in-Ok.ensures.step.1) in
+    let e = c.in_err-save_text.field-0.0 in
+    performs_err _ _ _ _ _ e (search rules)
+    (step_performed (option_map (λ (name : _). name.now) c.args.save) t s c.args.command.now
+    (g.S.Store.contents c.args.store.now) (g.S.Store.reads c.args.store.now) (g.S.Store.writes c.args.store.now)
+    (g.O.Sink.written c.args.out.now) written (g.O.Sink.faults c.args.out.now) faults
+    c.deref.result.now (lines_are t s c.args.command.now _ text)
+    {X = ℕ} c.deref-2.result.now _ (Err e) records c.in_ok-write_text.ensures.text c.write_text.ensures.later
+    (c.in_err-save_text.ensures.performs written faults))
+
+pub returns-in_err-save_text-clause-stays : goal.returns-in_err-save_text-clause-stays
+returns-in_err-save_text-clause-stays g c =
+    stays_both (option_map (λ (name : _). name.now) c.args.save) _ _ _
+    (stays_written _ (g.S.Store.contents c.args.store.now) (g.S.Store.reads c.args.store.now) (g.S.Store.writes c.args.store.now)
+    (g.O.Sink.written c.args.out.now) (g.O.Sink.written c.write_text.new.out) _ _ c.write_text.ensures.later)
+    (c.save_text.ensures.stays (g.O.Sink.written c.write_text.new.out) (g.O.Sink.faults c.write_text.new.out))
+
+pub count-requires : goal.count-requires
+count-requires g c =
+    let t = c.args.world.now.network in
+    let s = c.args.world.now.state in
+    let topology = subst (λ (n : Network). IsTopology n) c.topology.ensures c.profile-profile.ensures.lawful in
+    let few = ap (λ (a : Answer). length (verdicts_in a)) c.in-Ok.ensures.step.0 in
+    record { few = omega (arith, few, c.requires.room, answers_are_few t s c.args.command.now topology c.fits.ensures c.ledger.ensures.world) }
+
+pub returns-clause-total : goal.returns-clause-total
+returns-clause-total g c =
+    let t = c.args.world.now.network in
+    let s = c.args.world.now.state in
+    let topology = subst (λ (n : Network). IsTopology n) c.topology.ensures c.profile-profile.ensures.lawful in
+    let few = ap (λ (a : Answer). length (verdicts_in a)) c.in-Ok.ensures.step.0 in
+    omega (arith, few, c.count.ensures.total, answers_are_few t s c.args.command.now topology c.fits.ensures c.ledger.ensures.world)
+
+pub returns-clause-performs : goal.returns-clause-performs
+returns-clause-performs g c =
+    let t = c.args.world.now.network in
+    let s = c.args.world.now.state in
+    let n = next t s c.args.command.now in
+    let text : c.deref.result.now ≡ answered_text t c.args.command.now n.answer n.state =
+    c.deref.ensures.value ∙ (rw (c.in-Ok.ensures.network, c.in-Ok.ensures.step.1, c.in-Ok.ensures.step.0) at c.in-Ok-step_lines.ensures) in
+    let written = g.O.Sink.written c.write_text.new.out in
+    let faults = g.O.Sink.faults c.write_text.new.out in
+    let records = records_are t s c.args.command.now c.deref-2.result.now c.emissions-before.result c.now.result
+    c.ledger-2.result.now.history (c.deref-2.ensures.value ∙ c.in_ok-records.ensures)
+    (c.emissions-before.ensures ∙ ap (λ (h : History). length h.emissions) c.ledger.ensures.history)
+    (c.now.ensures.value ∙ ap (λ (x : State). x.moment) c.in-Ok.ensures.step.1)
+    (c.ledger-2.ensures.history ∙ ap (λ (x : State). x.history) c.in-Ok.ensures.step.1) in
+    step_performed (option_map (λ (name : _). name.now) c.args.save) t s c.args.command.now
+    (g.S.Store.contents c.args.store.now) (g.S.Store.reads c.args.store.now) (g.S.Store.writes c.args.store.now)
+    (g.O.Sink.written c.args.out.now) written (g.O.Sink.faults c.args.out.now) faults
+    c.deref.result.now (lines_are t s c.args.command.now _ text)
+    {X = ℕ} c.deref-2.result.now _ (Ok 0) records c.in_ok-write_text.ensures.text c.write_text.ensures.later
+    (c.in_ok-save_text.ensures.performs written faults)
+
+pub returns-clause-stays : goal.returns-clause-stays
+returns-clause-stays g c =
+    stays_both (option_map (λ (name : _). name.now) c.args.save) _ _ _
+    (stays_written _ (g.S.Store.contents c.args.store.now) (g.S.Store.reads c.args.store.now) (g.S.Store.writes c.args.store.now)
+    (g.O.Sink.written c.args.out.now) (g.O.Sink.written c.write_text.new.out) _ _ c.write_text.ensures.later)
+    (c.save_text.ensures.stays (g.O.Sink.written c.write_text.new.out) (g.O.Sink.faults c.write_text.new.out))

@@ -1,0 +1,250 @@
+-- What calls that do acts leave, one call after the other.
+use Rattle.std.proofs.Common.{◌≡◌, ℕ, ◌≤◌, List, [], ◌∷◌, ◌++◌, Option, Some, None, Result, Ok, Err, Contains, OnOk, OnErr, refl, sym, ap, subst, ◌∙◌, inl, inr, append_assoc, arith}
+use Rattle.epic_ports.specs.Faults.{CountsOnly, FailsBy, FailsWhereRose, Rose}
+use Rattle.epic_ports.specs.Files.{Files, KeepsFiles, Grows, GrowsBefore, Replaces, bytes_at}
+use Rattle.epic_ports.specs.Written.{Appends}
+use Rattle.epic_ports.specs.declared.error.PortError.{PortError}
+use Rattle.epic_ports.specs.declared.error.PortError.TheVariants.{Failed, OutOfMemory}
+use Rattle.epic_app.specs.Acts.{Act, Print, Create, Append, World, Does, Fails, appends, creates, prints}
+use Rattle.epic_app.specs.Performing.{Blamed, OthersKeep, Performs, Stays, Stopped}
+use Rattle.epic_app.specs.Writing.{Writes}
+use Rattle.epic_app.proofs.ActFiles.{appends-before, does_both, does_create, does_grow, does_nothing, does_text, prints-append, prints-before}
+use Rattle.epic_app.proofs.FileLaws.{later_by}
+
+-- ---- counts that didn't fall
+
+rose_in : (a b c : ℕ) → a ≤ b → Rose b c → Rose a c
+rose_in a b c low rose = grind (arith, low, rose)
+
+-- no count of faults of the output or of writes fell
+abbrev pub Later : World → World → Type 0
+Later old new = (old.faults ≤ new.faults) × ((q : List ℕ) → old.writes q ≤ new.writes q)
+
+-- what fails later fails over the whole
+fails_in : (act : Act) (u v w : World) → Later u v → Fails act v w → Fails act u w
+fails_in (Print byte) u v w (faults, writes) fails = rose_in u.faults v.faults w.faults faults fails
+fails_in (Create name) u v w (faults, writes) fails = rose_in (u.writes name) (v.writes name) (w.writes name) (writes name) fails
+fails_in (Append name byte) u v w (faults, writes) fails = rose_in (u.writes name) (v.writes name) (w.writes name) (writes name) fails
+
+blamed_in : (save : Option (List ℕ)) (u v w : World) → Later u v → Blamed save v w → Blamed save u w
+blamed_in None u v w (faults, writes) rose = rose_in u.faults v.faults w.faults faults rose
+blamed_in (Some name) u v w (faults, writes) (inl rose) = inl (rose_in u.faults v.faults w.faults faults rose)
+blamed_in (Some name) u v w (faults, writes) (inr rose) = inr (rose_in (u.writes name) (v.writes name) (w.writes name) (writes name) rose)
+
+others_both : (save : Option (List ℕ)) (u v w : Option Files) → OthersKeep save u v → OthersKeep save v w → OthersKeep save u w
+others_both save None v w first next = tt
+others_both save (Some f) None w first next = absurd first
+others_both save (Some f) (Some g) None first next = absurd next
+others_both save (Some f) (Some g) (Some h) first next = λ q absent. next q absent ∙ first q absent
+
+pub stays_both : (save : Option (List ℕ)) (u v w : World) → Stays save u v → Stays save v w → Stays save u w
+stays_both save u v w first next = record {
+  faults = omega (arith, first.faults, next.faults);
+  reads = next.reads ∙ first.reads;
+  later = λ q. omega (arith, first.later q, next.later q);
+  others = λ q absent. next.others q absent ∙ first.others q absent;
+  files = others_both save u.contents v.contents w.contents first.files next.files;
+}
+
+-- ---- one call after the other
+
+-- these acts were done, and then less of others
+stopped_after : (save : Option (List ℕ)) (a b : List Act) (u v w : World) (e : PortError)
+    → Does a u v → Later u v → Stopped save b v w e → Stopped save (a ++ b) u w e
+stopped_after save a b u v w Failed first later (stops, blamed) = (
+  record {
+    before = a ++ stops.before;
+    act = stops.act;
+    after = stops.after;
+    order = ap (λ acts. a ++ acts) stops.order ∙ sym (append_assoc a stops.before (stops.act ∷ stops.after));
+    done = does_both a stops.before u v w first stops.done;
+    fails = fails_in stops.act u v w later stops.fails;
+  },
+  blamed_in save u v w later blamed,
+)
+stopped_after save a b u v w OutOfMemory first later stops = record {
+  before = a ++ stops.before;
+  after = stops.after;
+  order = ap (λ acts. a ++ acts) stops.order ∙ sym (append_assoc a stops.before stops.after);
+  done = does_both a stops.before u v w first stops.done;
+}
+
+-- or others so
+performs_later : {X : Type 0} (save : Option (List ℕ)) (a b : List Act) (u v w : World) (r : Result X PortError)
+    → Does a u v → Later u v → Performs save b v w r → Performs save (a ++ b) u w r
+performs_later save a b u v w (Ok x) first later done = does_both a b u v w first done
+performs_later save a b u v w (Err e) first later stops = stopped_after save a b u v w e first later stops
+
+pub performs_after : {X : Type 0} (save : Option (List ℕ)) (a b : List Act) (u v w : World) (r : Result X PortError)
+    → Does a u v → Stays save u v → Performs save b v w r → Performs save (a ++ b) u w r
+performs_after save a b u v w r first stays performs = performs_later save a b u v w r first (stays.faults, stays.later) performs
+
+-- files that are read before change nothing of that
+pub performs_read : {X : Type 0} (save : Option (List ℕ)) (acts : List Act) (u v w : World) (r : Result X PortError)
+    → KeepsFiles u.contents v.contents → Appends u.written v.written [] → u.faults ≤ v.faults → v.writes ≡ u.writes → Performs save acts v w r → Performs save acts u w r
+performs_read save acts u v w r keeps nothing faults writes performs =
+    performs_later save [] acts u v w r (does_nothing u v keeps nothing) (faults, λ q. omega (arith, ap (λ (counts : List ℕ → ℕ). counts q) writes)) performs
+
+-- less of these acts is less of those that begin with them
+pub stopped_more : (save : Option (List ℕ)) (a b : List Act) (u v : World) (e : PortError) → Stopped save a u v e → Stopped save (a ++ b) u v e
+stopped_more save a b u v Failed (stops, blamed) = (
+  record {
+    before = stops.before;
+    act = stops.act;
+    after = stops.after ++ b;
+    order = ap (λ acts. acts ++ b) stops.order ∙ append_assoc stops.before (stops.act ∷ stops.after) b;
+    done = stops.done;
+    fails = stops.fails;
+  },
+  blamed,
+)
+stopped_more save a b u v OutOfMemory stops = record {
+  before = stops.before;
+  after = stops.after ++ b;
+  order = ap (λ acts. acts ++ b) stops.order ∙ append_assoc stops.before stops.after b;
+  done = stops.done;
+}
+
+-- less was done of a part of all acts
+pub stopped_in : (save : Option (List ℕ)) (front part more all : List Act) (u v w : World) (e : PortError)
+    → Does front u v → Stays save u v → Stopped save part v w e → all ≡ front ++ (part ++ more) → Stopped save all u w e
+stopped_in save front part more all u v w e first stays stops is =
+    let P : List Act → Type 0 = λ acts. Stopped save acts u w e in
+    subst P (sym is) (stopped_after save front (part ++ more) u v w e first (stays.faults, stays.later) (stopped_more save part more v w e stops))
+
+-- an answer that is this error
+pub performs_err : {X : Type 0} (save : Option (List ℕ)) (acts : List Act) (old new : World) (r : Result X PortError) (e : PortError)
+    → r ≡ Err e → Stopped save acts old new e → Performs save acts old new r
+performs_err save acts old new r e is stops = rw is stops
+
+-- memory was wanting before anything was done
+pub stopped_first : (save : Option (List ℕ)) (acts : List Act) (old new : World) → KeepsFiles old.contents new.contents → Appends old.written new.written []
+    → Stopped save acts old new OutOfMemory
+stopped_first save acts old new keeps nothing = record { before = []; after = acts; order = refl; done = does_nothing old new keeps nothing }
+
+-- ---- a text on the output
+
+blamed_out : (save : Option (List ℕ)) (old new : World) → Rose old.faults new.faults → Blamed save old new
+blamed_out None old new rose = rose
+blamed_out (Some name) old new rose = inl rose
+
+pub prints_performed : {X : Type 0} (save : Option (List ℕ)) (text : List ℕ) (old new : World) (r : Result X PortError) → KeepsFiles old.contents new.contents
+    → Writes text old.written new.written old.faults new.faults r → Performs save (prints text) old new r
+prints_performed save text old new (Ok x) keeps written = does_text text old new keeps written
+prints_performed save text old new (Err Failed) keeps (less, rose) = (
+  record {
+    before = prints less.front;
+    act = Print less.byte;
+    after = prints less.back;
+    order = ap prints less.order ∙ prints-before less.front less.byte less.back;
+    done = does_text less.front old new keeps less.written;
+    fails = rose;
+  },
+  blamed_out save old new rose,
+)
+prints_performed save text old new (Err OutOfMemory) keeps (front, back, is, written) = record {
+  before = prints front;
+  after = prints back;
+  order = ap prints is ∙ prints-append front back;
+  done = does_text front old new keeps written;
+}
+
+-- ---- a text in the saved file
+
+pub grows_performed : {X : Type 0} (name text : List ℕ) (old new : World) (r : Result X PortError)
+    → OnOk r (Grows old.contents new.contents name text) → OnErr r (GrowsBefore old.contents new.contents name text)
+    → FailsWhereRose (old.writes name) (new.writes name) r → Appends old.written new.written []
+    → Performs (Some name) (appends (Some name) text) old new r
+grows_performed name text old new (Ok x) ok err cause nothing = does_grow name text old new ok nothing
+grows_performed name text old new (Err Failed) ok err cause nothing = (
+  record {
+    before = appends (Some name) err.front;
+    act = Append name err.byte;
+    after = appends (Some name) err.back;
+    order = ap (appends (Some name)) err.order ∙ appends-before name err.front err.byte err.back;
+    done = does_grow name err.front old new err.added nothing;
+    fails = cause;
+  },
+  inr cause,
+)
+grows_performed name text old new (Err OutOfMemory) ok err cause nothing = record {
+  before = appends (Some name) err.front;
+  after = Append name err.byte ∷ appends (Some name) err.back;
+  order = ap (appends (Some name)) err.order ∙ appends-before name err.front err.byte err.back;
+  done = does_grow name err.front old new err.added nothing;
+}
+
+-- ---- the saved file is made
+
+pub create_performed : {X : Type 0} (name : List ℕ) (old new : World) (r : Result X PortError)
+    → OnOk r (Replaces old.contents new.contents name []) → OnErr r (KeepsFiles old.contents new.contents)
+    → FailsBy (old.writes name) (new.writes name) r → Appends old.written new.written []
+    → Performs (Some name) (creates (Some name)) old new r
+unfolding creates
+create_performed name old new (Ok x) ok err cause nothing = does_create name old new ok nothing
+create_performed name old new (Err Failed) ok err cause nothing = (
+  record { before = []; act = Create name; after = []; order = refl; done = does_nothing old new err nothing; fails = cause },
+  inr cause,
+)
+create_performed name old new (Err OutOfMemory) ok err cause nothing = record {
+  before = [];
+  after = Create name ∷ [];
+  order = refl;
+  done = does_nothing old new err nothing;
+}
+
+-- ---- what stays
+
+others_kept : (save : Option (List ℕ)) (old new : Option Files) → KeepsFiles old new → OthersKeep save old new
+others_kept save None new keeps = tt
+others_kept save (Some f) None keeps = absurd keeps
+others_kept save (Some f) (Some g) keeps = λ q absent. ap (λ (files : Files). files q) keeps
+
+pub others_read : (save : Option (List ℕ)) (old mid new : Option Files) → KeepsFiles old mid → OthersKeep save mid new → OthersKeep save old new
+others_read save old mid new keeps others = others_both save old mid new (others_kept save old mid keeps) others
+
+-- the files stay, and the counts of the output's faults didn't fall
+pub stays_kept : (save : Option (List ℕ)) (old new : World) → KeepsFiles old.contents new.contents → old.faults ≤ new.faults
+    → new.reads ≡ old.reads → new.writes ≡ old.writes → Stays save old new
+stays_kept save old new keeps later reads writes = record {
+  faults = later;
+  reads = reads;
+  later = λ q. omega (arith, ap (λ (counts : List ℕ → ℕ). counts q) writes);
+  others = λ q absent. ap (λ (counts : List ℕ → ℕ). counts q) writes;
+  files = others_kept save old.contents new.contents keeps;
+}
+
+one_of : (name q : List ℕ) → q ≡ name → Contains (name ∷ []) q
+one_of name q e = (0, omega arith, sym e)
+
+others_replaced : (name bytes : List ℕ) (old new : Option Files) → Replaces old new name bytes → OthersKeep (Some name) old new
+others_replaced name bytes None new is = tt
+others_replaced name bytes (Some f) None is = absurd is
+others_replaced name bytes (Some f) (Some g) (is, others) = λ q absent. others q (λ e. absent (one_of name q e))
+
+others_grown : (name text : List ℕ) (old new : Option Files) → Grows old new name text → OthersKeep (Some name) old new
+others_grown name [] old new keeps = others_kept (Some name) old new keeps
+others_grown name (byte ∷ text) old new is = others_replaced name (bytes_at old name ++ byte ∷ text) old new is
+
+-- no other file was written
+stays_saved : (name : List ℕ) (old new : World) → OthersKeep (Some name) old.contents new.contents → old.faults ≤ new.faults
+    → new.reads ≡ old.reads → CountsOnly name old.writes new.writes → Stays (Some name) old new
+stays_saved name old new files later reads writes = record {
+  faults = later;
+  reads = reads;
+  later = λ q. later_by name q old.writes new.writes writes;
+  others = λ q absent. writes.others q (λ e. absent (one_of name q e));
+  files = files;
+}
+
+pub create_stays : {X : Type 0} (name : List ℕ) (old new : World) (r : Result X PortError)
+    → OnOk r (Replaces old.contents new.contents name []) → OnErr r (KeepsFiles old.contents new.contents)
+    → old.faults ≤ new.faults → new.reads ≡ old.reads → CountsOnly name old.writes new.writes → Stays (Some name) old new
+create_stays name old new (Ok x) ok err later reads writes = stays_saved name old new (others_replaced name [] old.contents new.contents ok) later reads writes
+create_stays name old new (Err e) ok err later reads writes = stays_saved name old new (others_kept (Some name) old.contents new.contents err) later reads writes
+
+pub grows_stays : {X : Type 0} (name text : List ℕ) (old new : World) (r : Result X PortError)
+    → OnOk r (Grows old.contents new.contents name text) → OnErr r (GrowsBefore old.contents new.contents name text)
+    → old.faults ≤ new.faults → new.reads ≡ old.reads → CountsOnly name old.writes new.writes → Stays (Some name) old new
+grows_stays name text old new (Ok x) ok err later reads writes = stays_saved name old new (others_grown name text old.contents new.contents ok) later reads writes
+grows_stays name text old new (Err e) ok err later reads writes = stays_saved name old new (others_grown name err.front old.contents new.contents err.added) later reads writes
