@@ -63,6 +63,3 @@ pub fn print_carried(
     }
     append(to, &lines)
 }
-
-#[cfg(test)]
-mod tests;
