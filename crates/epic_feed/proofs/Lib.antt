@@ -1,0 +1,5 @@
+pub mod Few
+mod Fronts
+mod Steps
+mod Told
+mod Whole
