@@ -1,0 +1,6 @@
+pub mod Made
+pub mod Places
+mod Plain
+mod Printed
+pub mod Read
+mod TagBytes
