@@ -6,7 +6,7 @@ use Rattle.epic_ports.specs.Written.{Appends}
 use Rattle.epic_ports.specs.declared.error.PortError.{PortError}
 use Rattle.epic_ports.specs.declared.error.PortError.TheVariants.{Failed, OutOfMemory}
 use Rattle.epic_app.specs.Acts.{Act, Print, Create, Append, World, Does, Fails, appends, creates, prints}
-use Rattle.epic_app.specs.Performing.{Blamed, OthersKeep, Performs, Stays, Stopped}
+use Rattle.epic_app.specs.Performing.{Blamed, OthersKeep, Performs, Stays, Stopped, Works}
 use Rattle.epic_app.specs.Writing.{Writes}
 use Rattle.epic_app.proofs.ActFiles.{appends-before, does_both, does_create, does_grow, does_nothing, does_text, prints-append, prints-before}
 use Rattle.epic_app.proofs.FileLaws.{later_by}
@@ -21,17 +21,17 @@ abbrev pub Later : World → World → Type 0
 Later old new = (old.faults ≤ new.faults) × ((q : List ℕ) → old.writes q ≤ new.writes q)
 
 -- what fails later fails over the whole
-fails_in : (act : Act) (u v w : World) → Later u v → Fails act v w → Fails act u w
+pub fails_in : (act : Act) (u v w : World) → Later u v → Fails act v w → Fails act u w
 fails_in (Print byte) u v w (faults, writes) fails = rose_in u.faults v.faults w.faults faults fails
 fails_in (Create name) u v w (faults, writes) fails = rose_in (u.writes name) (v.writes name) (w.writes name) (writes name) fails
 fails_in (Append name byte) u v w (faults, writes) fails = rose_in (u.writes name) (v.writes name) (w.writes name) (writes name) fails
 
-blamed_in : (save : Option (List ℕ)) (u v w : World) → Later u v → Blamed save v w → Blamed save u w
+pub blamed_in : (save : Option (List ℕ)) (u v w : World) → Later u v → Blamed save v w → Blamed save u w
 blamed_in None u v w (faults, writes) rose = rose_in u.faults v.faults w.faults faults rose
 blamed_in (Some name) u v w (faults, writes) (inl rose) = inl (rose_in u.faults v.faults w.faults faults rose)
 blamed_in (Some name) u v w (faults, writes) (inr rose) = inr (rose_in (u.writes name) (v.writes name) (w.writes name) (writes name) rose)
 
-others_both : (save : Option (List ℕ)) (u v w : Option Files) → OthersKeep save u v → OthersKeep save v w → OthersKeep save u w
+pub others_both : (save : Option (List ℕ)) (u v w : Option Files) → OthersKeep save u v → OthersKeep save v w → OthersKeep save u w
 others_both save None v w first next = tt
 others_both save (Some f) None w first next = absurd first
 others_both save (Some f) (Some g) None first next = absurd next
@@ -78,6 +78,16 @@ performs_later save a b u v w (Err e) first later stops = stopped_after save a b
 pub performs_after : {X : Type 0} (save : Option (List ℕ)) (a b : List Act) (u v w : World) (r : Result X PortError)
     → Does a u v → Stays save u v → Performs save b v w r → Performs save (a ++ b) u w r
 performs_after save a b u v w r first stays performs = performs_later save a b u v w r first (stays.faults, stays.later) performs
+
+-- or others so, where files were read meanwhile
+pub performs_works : {X : Type 0} (save : Option (List ℕ)) (a b : List Act) (u v w : World) (r : Result X PortError)
+    → Does a u v → Works save u v → Performs save b v w r → Performs save (a ++ b) u w r
+performs_works save a b u v w r first works performs = performs_later save a b u v w r first (works.faults, works.later) performs
+
+-- and less of others so
+pub stopped_later : (save : Option (List ℕ)) (a b : List Act) (u v w : World) (e : PortError)
+    → Does a u v → Works save u v → Stopped save b v w e → Stopped save (a ++ b) u w e
+stopped_later save a b u v w e first works stops = stopped_after save a b u v w e first (works.faults, works.later) stops
 
 -- files that are read before change nothing of that
 pub performs_read : {X : Type 0} (save : Option (List ℕ)) (acts : List Act) (u v w : World) (r : Result X PortError)
@@ -195,7 +205,7 @@ create_performed name old new (Err OutOfMemory) ok err cause nothing = record {
 
 -- ---- what stays
 
-others_kept : (save : Option (List ℕ)) (old new : Option Files) → KeepsFiles old new → OthersKeep save old new
+pub others_kept : (save : Option (List ℕ)) (old new : Option Files) → KeepsFiles old new → OthersKeep save old new
 others_kept save None new keeps = tt
 others_kept save (Some f) None keeps = absurd keeps
 others_kept save (Some f) (Some g) keeps = λ q absent. ap (λ (files : Files). files q) keeps

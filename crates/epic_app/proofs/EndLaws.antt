@@ -1,18 +1,20 @@
 -- The contract of the top call, from how a command ended and what was told.
-use Rattle.std.proofs.Common.{◌≡◌, ◌⊎◌, ℕ, ◌<◌, Bool, true, false, cond, List, [], ◌∷◌, Option, Some, None, option_map, IsTrue, refl, sym, ap, subst, inl, inr, arith}
+use Rattle.std.proofs.Common.{◌≡◌, ◌⊎◌, ℕ, ◌<◌, Bool, true, false, cond, bytes_eq, List, [], ◌∷◌, Option, Some, None, Result, Ok, Err, IsTrue, refl, sym, ap, subst, inl, inr, arith}
 use Rattle.std.specs.Prelude.{codes}
-use Rattle.std.specs.Option.{is_some, option_and_then}
+use Rattle.hex.specs.Hex.{decode_sized}
+use Rattle.hex.specs.declared.error.FromHexError.{FromHexError}
+use Rattle.epic_words.specs.RunCommand.{is_refused, rows_in, run_command}
 use Rattle.epic_ports.specs.Files.{Files}
 use Rattle.epic_ports.proofs.Appended.{Appends-none}
 use Rattle.epic_app.specs.declared.end.End.{End}
-use Rattle.epic_app.specs.declared.end.End.TheVariants.{Done, BadWords, BadTopology, LongTopology, BadScript, LongScript, ReadFault, WriteFault, OutOfMemory}
+use Rattle.epic_app.specs.declared.end.End.TheVariants.{Done, BadWords, BadTopology, LongTopology, BadScript, LongScript, BadCapture, ReadFault, WriteFault, OutOfMemory}
 use Rattle.epic_app.specs.Acts.{World}
 use Rattle.epic_app.specs.Doing.{Progress}
 use Rattle.epic_app.specs.End.{status_of, line_of, Blames, Decided, HasCause, EndsAs, EndsFor}
 use Rattle.epic_app.specs.Outcome.{ErrorSink, Tells, EndsBy, NoFault, EndsUnder, FilesStay, Refuses}
-use Rattle.epic_words.specs.Request.{Request, Hop, Run, RunRequest, is_command, reads_of, request_of}
+use Rattle.epic_words.specs.Request.{Request, Hop, Run, Gen, RunRequest, gen_of, gen_request, hop_of, hop_request, is_command, number_in, reads_of, request_of, run_of, run_request, shares_files, unless_shared}
+use Rattle.epic_app.specs.RunEnding.{IsUnshared}
 use Rattle.epic_app.specs.Readings.{Reading, Unread, AreRead}
-use Rattle.epic_app.specs.Served.{asked, served}
 use Rattle.epic_app.proofs.ActFiles.{does_nothing}
 use Rattle.epic_app.proofs.FileLaws.{keeps_itself}
 
@@ -27,6 +29,7 @@ module _ (p : Progress) (old new : World) (e f : ErrorSink) where
   ends_by LongTopology cause tells = decides _ _ cause tells
   ends_by (BadScript line kind) cause tells = decides _ _ cause tells
   ends_by LongScript cause tells = decides _ _ cause tells
+  ends_by (BadCapture damage) cause tells = decides _ _ cause tells
   ends_by (ReadFault name) cause tells = decides _ _ cause tells
   ends_by WriteFault cause tells = inr (inl (record { is_status = refl; stops = cause; tells = tells }))
   ends_by OutOfMemory cause tells = inr (inr (record { is_status = refl; stops = cause; tells = tells }))
@@ -40,6 +43,7 @@ complete request p old new (BadTopology kind key item) cause blames none = inl (
 complete request p old new LongTopology cause blames none = inl (omega arith)
 complete request p old new (BadScript line kind) cause blames none = inl (omega arith)
 complete request p old new LongScript cause blames none = inl (omega arith)
+complete request p old new (BadCapture damage) cause blames none = inl (omega arith)
 complete request p old new (ReadFault name) cause (reads, rose) none = absurd (none.reads name.now reads rose)
 complete request p old new WriteFault cause blames none = absurd (none.writes blames)
 complete request p old new OutOfMemory cause blames none = inr refl
@@ -58,6 +62,7 @@ ends_under words (Some request) old new e f end ended tells = record {
   are_read = ended.are_read;
   ends = ends_by _ old new e f end ended.cause tells;
   complete = complete request _ old new end ended.cause ended.blames;
+  fits = ended.fits;
   counts = ended.counts;
   files = ended.files;
 }
@@ -75,6 +80,7 @@ memory_by request readings w read = record {
   are_read = read;
   cause = record { before = []; after = _; order = refl; done = does_nothing w w (keeps_itself w.contents) (Appends-none w.written) };
   blames = tt;
+  fits = λ below. absurd (omega (arith, below));
   counts = record { reads = λ q absent. refl; writes = λ q absent. refl };
   files = kept_itself request w.contents;
 }
@@ -87,49 +93,77 @@ pub memory_for : (words : List (List ℕ)) (request : Option Request) (w : World
 memory_for words None w run = (refl, inr (refl, run))
 memory_for words (Some (Hop key name)) w run = memory_by (Hop key name) (Unread ∷ []) w (tt, tt)
 memory_for words (Some (Run r)) w run = memory_run r r.capture w refl
+memory_for words (Some (Gen seed packets)) w run = memory_by (Gen seed packets) [] w tt
 
 -- ---- what the words ask for
 
 -- words that are no command
-pub refused_for : (words : List (List ℕ)) (w : World) → request_of words ≡ None → EndsFor words (asked words) w w BadWords
-unfolding asked
+pub refused_for : (words : List (List ℕ)) (w : World) → request_of words ≡ None → EndsFor words (request_of words) w w BadWords
 refused_for words w is =
-    let P : Option Request → Type 0 = λ r. EndsFor words (option_and_then served r) w w BadWords in
+    let P : Option Request → Type 0 = λ r. EndsFor words r w w BadWords in
     subst P (sym is) (refl, inl refl)
 
-pub hop_for : (words : List (List ℕ)) (key name : List ℕ) (old new : World) (end : End) → request_of words ≡ Some (Hop key name)
-    → EndsAs (Hop key name) old new end → EndsFor words (asked words) old new end
-unfolding asked
-hop_for words key name old new end is ended =
-    let P : Option Request → Type 0 = λ r. EndsFor words (option_and_then served r) old new end in
+-- and those that are one
+pub asked_for : (words : List (List ℕ)) (request : Request) (old new : World) (end : End) → request_of words ≡ Some request
+    → EndsAs request old new end → EndsFor words (request_of words) old new end
+asked_for words request old new end is ended =
+    let P : Option Request → Type 0 = λ r. EndsFor words r old new end in
     subst P (sym is) ended
 
--- a name in the words is a name in the request
-pub some_named : {X Y : Type 0} (f : X → Y) (name : Option X) → is_some name ≡ true → is_some (option_map f name) ≡ true
-some_named f None some = some
-some_named f (Some x) some = refl
+-- ---- a run that is asked for writes no file that it reads
 
-pub none_named : {X Y : Type 0} (f : X → Y) (name : Option X) → is_some name ≡ false → option_map f name ≡ None
-none_named f None none = refl
-none_named f (Some x) none = absurd (cc)
+abbrev the_run : RunRequest → Option Request → RunRequest
+the_run other None = other
+the_run other (Some (Hop key name)) = other
+the_run other (Some (Run r)) = r
+the_run other (Some (Gen seed packets)) = other
 
--- what is served of a run over this capture, or over none
-abbrev served_run : RunRequest → Option (List ℕ) → Option Request
-served_run r capture = cond (is_some capture) None (Some (Run r))
+unshared_by : (b : Bool) (q r : RunRequest) → shares_files (Run q) ≡ b → ◌≡◌ {A = Option Request} (cond b None (Some (Run q))) (Some (Run r)) → IsUnshared r
+unshared_by true q r is same = absurd (cc)
+unshared_by false q r is same = subst IsUnshared (ap (the_run q) same) is
 
-pub run_for : (words : List (List ℕ)) (r : RunRequest) (old new : World) (end : End) → request_of words ≡ Some (Run r) → r.capture ≡ None
-    → EndsAs (Run r) old new end → EndsFor words (asked words) old new end
-unfolding asked
-run_for words r old new end is none ended =
-    let P : Option Request → Type 0 = λ r. EndsFor words (option_and_then served r) old new end in
-    let Q : Option (List ℕ) → Type 0 = λ capture. EndsFor words (served_run r capture) old new end in
-    subst P (sym is) (subst Q (sym none) ended)
+unshared_run : (words : List (List ℕ)) (r : RunRequest) → run_of words ≡ Some (Run r) → IsUnshared r
+unfolding run_of
+unshared_run words r is = by (is_refused run_command words) is
+  where
+    q : RunRequest
+    q = run_request (rows_in run_command words)
 
--- a run over a capture is not served
-pub unserved_for : (words : List (List ℕ)) (r : RunRequest) (w : World) → request_of words ≡ Some (Run r) → is_some r.capture ≡ true
-    → EndsFor words (asked words) w w BadWords
-unfolding asked
-unserved_for words r w is some =
-    let P : Option Request → Type 0 = λ r. EndsFor words (option_and_then served r) w w BadWords in
-    let Q : Bool → Type 0 = λ b. EndsFor words (cond b None (Some (Run r))) w w BadWords in
-    subst P (sym is) (subst Q (sym some) (refl, inl refl))
+    by : (b : Bool) → ◌≡◌ {A = Option Request} (cond b None (unless_shared q)) (Some (Run r)) → IsUnshared r
+    by true same = absurd (cc)
+    by false same = unshared_by (shares_files (Run q)) q r refl same
+
+no_run : (name : List ℕ) (key : Result (List ℕ) FromHexError) (r : RunRequest) → hop_request name key ≡ Some (Run r) → ⊥
+no_run name (Ok key) r is = absurd (cc)
+no_run name (Err e) r is = absurd (cc)
+
+hop_is_no_run : (words : List (List ℕ)) (r : RunRequest) → hop_of words ≡ Some (Run r) → ⊥
+unfolding hop_of
+hop_is_no_run [] r is = absurd (cc)
+hop_is_no_run (key ∷ []) r is = absurd (cc)
+hop_is_no_run (key ∷ name ∷ []) r is = no_run name (decode_sized key 16) r is
+hop_is_no_run (key ∷ name ∷ more ∷ words) r is = absurd (cc)
+
+no_run_either : (seed packets : Option ℕ) (r : RunRequest) → gen_request seed packets ≡ Some (Run r) → ⊥
+no_run_either None packets r is = absurd (cc)
+no_run_either (Some seed) None r is = absurd (cc)
+no_run_either (Some seed) (Some packets) r is = absurd (cc)
+
+gen_is_no_run : (words : List (List ℕ)) (r : RunRequest) → gen_of words ≡ Some (Run r) → ⊥
+unfolding gen_of
+gen_is_no_run [] r is = absurd (cc)
+gen_is_no_run (seed ∷ []) r is = absurd (cc)
+gen_is_no_run (seed ∷ packets ∷ []) r is =
+    no_run_either (number_in 0 0xffff_ffff_ffff_ffff seed) (number_in 1 100000 packets) r is
+gen_is_no_run (seed ∷ packets ∷ more ∷ words) r is = absurd (cc)
+
+pub unshared_for : (words : List (List ℕ)) (r : RunRequest) → request_of words ≡ Some (Run r) → IsUnshared r
+unfolding request_of
+unshared_for [] r is = absurd (cc)
+unshared_for (command ∷ words) r is = by (bytes_eq command (codes "hop")) (bytes_eq command (codes "run")) (bytes_eq command (codes "gen")) is
+  where
+    by : (hop run gen : Bool) → ◌≡◌ {A = Option Request} (cond hop (hop_of words) (cond run (run_of words) (cond gen (gen_of words) None))) (Some (Run r)) → IsUnshared r
+    by true run gen same = absurd (hop_is_no_run words r same)
+    by false true gen same = unshared_run words r same
+    by false false true same = absurd (gen_is_no_run words r same)
+    by false false false same = absurd (cc)

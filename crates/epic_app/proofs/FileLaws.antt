@@ -90,7 +90,7 @@ later_by m n old new only = by (bytes_eq n m) refl
         let e : new n ≡ old n = only.others n (λ h. cc (is, (bytes_eq-Decides n m).1 h)) in
         omega (arith, e)
 
-rose_between : (a b c d : ℕ) → a ≤ b → Rose b c → c ≤ d → Rose a d
+pub rose_between : (a b c d : ℕ) → a ≤ b → Rose b c → c ≤ d → Rose a d
 rose_between a b c d low rose high = grind (arith, low, rose, high)
 
 holds_before : (old mid : Option Files) (name bytes : List ℕ) → KeepsFiles old mid → Holds mid name bytes → Holds old name bytes

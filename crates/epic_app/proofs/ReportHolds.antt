@@ -1,9 +1,16 @@
 -- What a report claims, from the contract of the top call.
-use Rattle.std.proofs.Common.{◌≡◌, ◌↔◌, ℕ, ◌+◌, ◌<◌, Bool, true, false, cond, ltb, ◌||◌, List, [], ◌∷◌, length, Option, Some, None, Result, Ok, Err, count_by, IsTrue, refl, sym, ap, subst, ◌∙◌, inl, inr, arith}
-use Rattle.std.specs.List.{list_any}
+use Rattle.std.proofs.Common.{◌≡◌, ◌↔◌, ℕ, ◌+◌, ◌<◌, Bool, true, false, cond, ◌≤◌, ltb, ◌||◌, List, [], ◌∷◌, length, drop, length-append, Option, Some, None, Result, Ok, Err, count_by, IsTrue, refl, sym, ap, subst, ◌∙◌, inl, inr, arith}
+use Rattle.std.specs.List.{All, AllByRecursion, list_any}
+use Rattle.std.specs.Option.{option_to_list}
 use Rattle.std.proofs.lemmas.Bool.Decides.{nat_tests}
+use Rattle.std.proofs.lemmas.List.Elements.{All-append, All-nil}
 use Rattle.std.proofs.lemmas.List.Sums.{sum_by-cons}
 use Rattle.epic_num.specs.declared.command.Command.{Command}
+use Rattle.epic_capture.specs.Records.{Captured}
+use Rattle.epic_feed.specs.declared.damage.Damage.{Damage}
+use Rattle.epic_feed.specs.Forms.{records_in}
+use Rattle.epic_feed.proofs.Few.{few_records}
+use Rattle.epic_ports.specs.Files.{Files}
 use Rattle.epic_ports.specs.Written.{Appends}
 use Rattle.epic_topo.specs.Lawful.{IsTopology}
 use Rattle.epic_topo.specs.Network.{Network}
@@ -13,27 +20,37 @@ use Rattle.epic_topo.specs.declared.fault.TopoError.TheVariants.{Bad, OutOfMemor
 use Rattle.epic_topo.proofs.ReadLawful.{read_lawful}
 use Rattle.epic_topo.proofs.Steps.{at_ok}
 use Rattle.epic_num.specs.declared.command.Command.TheVariants as command
+use Rattle.epic_gen.specs.Script.{generated}
+use Rattle.epic_gen.specs.Topology.{generated_network}
+use Rattle.epic_gen.proofs.Places.{length-generated}
+use Rattle.epic_gen.proofs.Read.{network_lawful, text_read}
 use Rattle.epic_text.specs.RunScript.{CommandsAreSpelled, IsSpelled, run_rule}
 use Rattle.epic_text.specs.Script.{Fault, Rule, commands_of}
-use Rattle.epic_world.specs.Run.{run}
-use Rattle.epic_model.specs.World.{Fits}
+use Rattle.epic_model.specs.State.{start}
+use Rattle.epic_world.specs.Run.{run, run_from}
+use Rattle.epic_model.specs.World.{Fits, most_steps}
 use Rattle.epic_world.specs.Sound.{RunsHold}
 use Rattle.epic_app.specs.Acts.{Act, World, Does, printed, prints}
-use Rattle.epic_app.specs.Claims.{HopHolds, HoldsUnder, RunHolds}
-use Rattle.epic_app.specs.Doing.{Progress, by_commands, by_topology, doing, ends, hop_done, on_commands, on_topology, run_acts, run_done, whole, within}
-use Rattle.epic_app.specs.FaultLines.{fault_line, long_topology_line, read_line, too_long_line, topology_line}
+use Rattle.epic_app.specs.Captures.{RecordsFit, records_commands, run_commands}
+use Rattle.epic_app.specs.Claims.{GenHolds, HopHolds, HoldsRecords, HoldsUnder, RunHolds}
+use Rattle.epic_app.specs.Doing.{Progress, by_commands, by_records, by_topology, doing, ends, gen_done, hop_done, on_capture, on_commands, on_topology, run_acts, run_by, run_cut, run_done, whole, within, steps_acts}
+use Rattle.epic_app.specs.FaultLines.{capture_line, fault_line, long_topology_line, read_line, too_long_line, topology_line}
+use Rattle.epic_app.specs.Generating.{gen_text, generated_steps}
 use Rattle.epic_app.specs.HopFile.{hop_rule}
 use Rattle.epic_app.specs.HopReport.{answers, hop_report, is_forged}
 use Rattle.epic_app.specs.Limits.{file_limit, script_limit, topology_limit}
 use Rattle.epic_app.specs.Outcome.{ErrorSink, EndsBy, EndsUnder}
 use Rattle.epic_app.specs.Readings.{Reading, Whole, Failed, Unread, Holds, AreRead, IsRead}
-use Rattle.epic_words.specs.Request.{Request, Hop, Run, RunRequest, reads_of}
+use Rattle.epic_words.specs.Request.{Request, Hop, Run, Gen, RunRequest, reads_of}
 use Rattle.epic_app.specs.RunReport.{has_alarm}
 use Rattle.epic_app.proofs.ActFiles.{printed-prints}
 use Rattle.epic_app.proofs.ScriptCommands.{few_commands}
 use Rattle.epic_app.proofs.RunActs.{printed-run, saves_whole}
 use Rattle.epic_app.proofs.AllOf.{all_map}
+use Rattle.epic_app.proofs.RanLaws.{two_each}
 use Rattle.epic_app.proofs.AnswersHold.{answers_hold}
+use Rattle.epic_app.proofs.FewPackets.{HasFew}
+use Rattle.epic_app.proofs.GenClaims.{all_fit}
 
 -- ---- what decided a status of 0 or 1
 
@@ -160,37 +177,98 @@ fits_so (command.Carry emission) is = tt
 fits_so (command.Reveal holder) is = tt
 fits_so (command.Roll a) is = tt
 
+-- the records of a capture decided, if one is named
+record ByCapture (capture save : Option (List ℕ)) (t : Network) (commands : List Command) (p : Progress) (contents : Option Files) : Type 0 where
+  records : List Captured
+  are : HoldsRecords capture contents records
+  leads : p ≡ run_done save t commands records
+  fit : All Fits (records_commands records)
+  few : length records ≤ 262144
+
+capture_decides : (capture save : Option (List ℕ)) (t : Network) (commands : List Command) (rest : List Reading) (old new : World) (status : ℕ)
+    → status < 2 → IsEnd (run_by capture rest save t commands) status → AreRead old new (option_to_list capture) rest → AllByRecursion RecordsFit rest
+    → ByCapture capture save t commands (run_by capture rest save t commands) old.contents
+unfolding run_by on_capture by_records run_cut records_commands
+capture_decides None save t commands [] old new status below end read fits =
+    record { records = []; are = refl; leads = refl; fit = All-nil Fits; few = omega arith }
+capture_decides None save t commands (reading ∷ rest) old new status below end read fits = absurd read
+capture_decides (Some name) save t commands [] old new status below end read fits = absurd read
+capture_decides (Some name) save t commands (Failed front ∷ []) old new status below end read fits =
+    absurd (no_end (steps_acts save (length commands) t (run t (run_commands commands (records_in front).items))) 6 (read_line name) status (omega arith) below end)
+capture_decides (Some name) save t commands (Unread ∷ []) old new status below (line, is) read fits = absurd (cc)
+capture_decides (Some name) save t commands (Whole bytes ∷ []) old new status below end (holds, none) (fits, no_more) =
+    by (records_in bytes).damage refl end
+  where
+    by : (damage : Option Damage) → (records_in bytes).damage ≡ damage → IsEnd (by_records save t commands (records_in bytes).items damage) status
+        → ByCapture (Some name) save t commands (by_records save t commands (records_in bytes).items (records_in bytes).damage) old.contents
+    by (Some e) is end =
+        absurd (no_end (steps_acts save (length commands) t (run t (run_commands commands (records_in bytes).items))) 5 (capture_line e) status (omega arith) below end)
+    by None is end = record {
+      records = (records_in bytes).items;
+      are = (bytes, holds, ap (λ (damage : Option Damage). record { items = (records_in bytes).items; damage = damage }) is);
+      leads = ap (by_records save t commands (records_in bytes).items) is;
+      fit = fits;
+      few = few_records bytes;
+    }
+capture_decides (Some name) save t commands (reading ∷ second ∷ rest) old new status below end (read, many) fits = absurd many
+
 module _ (runs_hold : RunsHold) (spelled : CommandsAreSpelled) where
-  run_claims : (r : RunRequest) (old new : World) (first second : Reading) (status : ℕ) → IsRead old new r.topology first → IsRead old new r.script second → status < 2
-      → IsEnd (doing (Run r) (first ∷ second ∷ [])) status → Does (doing (Run r) (first ∷ second ∷ [])).acts old new → RunHolds r old new status
-  unfolding doing run_done run
-  run_claims r old new first second status read read_too below end done =
-      let next : Network → Progress = λ t. on_commands r.script script_limit run_rule second (run_done r.save t) in
+  run_claims : (r : RunRequest) (old new : World) (first second : Reading) (rest : List Reading) (status : ℕ) → IsRead old new r.topology first → IsRead old new r.script second
+      → AreRead old new (option_to_list r.capture) rest → AllByRecursion RecordsFit rest → status < 2
+      → IsEnd (doing (Run r) (first ∷ second ∷ rest)) status → Does (doing (Run r) (first ∷ second ∷ rest)).acts old new → RunHolds r old new status
+  unfolding doing run_done run run_commands
+  run_claims r old new first second rest status read read_too reads fits below end done =
+      let next : Network → Progress = λ t. on_commands r.script script_limit run_rule second (run_by r.capture rest r.save t) in
       let top = topology_decides r.topology first next status below end in
-      let end_next : IsEnd (next top.network) status = let P : Progress → Type 0 = λ p. IsEnd p status in subst P top.leads end in
-      let by = commands_decide r.script script_limit run_rule second (run_done r.save top.network) status below end_next in
-      let leads = top.leads ∙ by.leads in
-      let steps = run top.network by.commands in
-      let acts = run_acts r.save top.network steps in
+      let t = top.network in
+      let end_next : IsEnd (next t) status = let P : Progress → Type 0 = λ p. IsEnd p status in subst P top.leads end in
+      let by = commands_decide r.script script_limit run_rule second (run_by r.capture rest r.save t) status below end_next in
+      let end_last : IsEnd (run_by r.capture rest r.save t by.commands) status = let P : Progress → Type 0 = λ p. IsEnd p status in subst P by.leads end_next in
+      let of = capture_decides r.capture r.save t by.commands rest old new status below end_last reads fits in
+      let leads = top.leads ∙ (by.leads ∙ of.leads) in
+      let commands = run_commands by.commands of.records in
+      let steps = run_from t start commands in
+      let acts = run_acts r.save (length by.commands) t steps in
       let did : Does acts old new = let P : List Act → Type 0 = λ a. Does a old new in subst P (ap (λ (p : Progress). p.acts) leads) done in
-      let lawful : IsTopology top.network = at_ok IsTopology (topology top.bytes) top.network top.is (read_lawful top.bytes) in
-      let fit = all_map IsSpelled Fits by.commands fits_so (spelled by.bytes by.commands by.are) in
-      let holds = runs_hold top.network by.commands lawful fit (omega (arith, few_commands run_rule by.bytes by.commands by.are)) in
+      let lawful : IsTopology t = at_ok IsTopology (topology top.bytes) t top.is (read_lawful top.bytes) in
+      let fit = All-append Fits by.commands (records_commands of.records) (all_map IsSpelled Fits by.commands fits_so (spelled by.bytes by.commands by.are)) of.fit in
+      let few : length commands + 1 < most_steps
+      = omega (arith, few_commands run_rule by.bytes by.commands by.are, of.few, two_each of.records, length-append by.commands (records_commands of.records)) in
+      let holds = runs_hold t commands lawful fit few in
       record {
         text = top.bytes;
         bytes = by.bytes;
         is_topology = file_held old new r.topology first top.bytes top.is_whole read;
         is_script = file_held old new r.script second by.bytes by.is_whole read_too;
-        network = top.network;
+        network = t;
         is_network = top.is;
         commands = by.commands;
         are_commands = by.are;
+        records = of.records;
+        are_records = of.are;
         steps = holds.0;
         last = holds.1;
-        report = (let P = Appends old.written new.written in subst P (printed-run r.save top.network steps) did.output);
-        alarm = status_one (has_alarm steps) (has_alarm steps) status refl (sym (ap (λ (p : Progress). ended_status p) leads) ∙ ended_at (doing (Run r) (first ∷ second ∷ [])) status end);
-        saved = saves_whole r.save top.network steps old.contents new.contents did.files;
+        report = (let P = Appends old.written new.written in subst P (printed-run r.save (length by.commands) t steps) did.output);
+        alarm = status_one (has_alarm steps) (has_alarm steps) status refl (sym (ap (λ (p : Progress). ended_status p) leads) ∙ ended_at (doing (Run r) (first ∷ second ∷ rest)) status end);
+        saved = saves_whole r.save (length by.commands) t steps old.contents new.contents did.files;
       }
+
+-- ---- generated runs
+
+gen_claims : RunsHold → (seed packets : ℕ) (old new : World) (status : ℕ) → packets ≤ 100000
+    → IsEnd (doing (Gen seed packets) []) status → Does (doing (Gen seed packets) []).acts old new → GenHolds seed packets old new status
+unfolding doing gen_done generated_steps run
+gen_claims runs_hold seed packets old new status few end done =
+    let t = generated_network seed in
+    let steps = generated_steps seed packets in
+    let holds = runs_hold t (generated seed packets) (network_lawful seed) (all_fit seed packets few) (omega (arith, few, length-generated seed packets)) in
+    record {
+      is_network = text_read seed;
+      steps = holds.0;
+      last = holds.1;
+      report = text_printed (doing (Gen seed packets) []) (gen_text t steps) old new refl done;
+      alarm = status_one (has_alarm steps) (has_alarm steps) status refl (ended_at (doing (Gen seed packets) []) status end);
+    }
 
 -- ---- the whole
 
@@ -208,21 +286,26 @@ hop_holds key name old new e f status (reading ∷ []) (read, none) by below =
     hop_claims key name old new reading status read below end done
 hop_holds key name old new e f status (reading ∷ second ∷ more) (read, many) by below = absurd many
 
+gen_holds : RunsHold → (seed packets : ℕ) (old new : World) (e f : ErrorSink) (status : ℕ) (readings : List Reading) → packets ≤ 100000 → AreRead old new [] readings
+    → EndsBy (doing (Gen seed packets) readings) old new e f status → status < 2 → GenHolds seed packets old new status
+gen_holds runs_hold seed packets old new e f status [] few read by below =
+    let (end, done) = decided _ old new e f status by below in
+    gen_claims runs_hold seed packets old new status few end done
+gen_holds runs_hold seed packets old new e f status (reading ∷ more) few read by below = absurd read
+
 module _ (runs_hold : RunsHold) (spelled : CommandsAreSpelled) where
   run_holds : (r : RunRequest) (old new : World) (e f : ErrorSink) (status : ℕ) (readings : List Reading) → AreRead old new (reads_of (Run r)) readings
-      → EndsBy (doing (Run r) readings) old new e f status → status < 2 → RunHolds r old new status
-  unfolding doing
-  run_holds r old new e f status [] read by below = absurd read
-  run_holds r old new e f status (first ∷ []) (read, none) by below = absurd none
-  run_holds r old new e f status (first ∷ second ∷ []) (read, (read_too, none)) by below =
+      → EndsBy (doing (Run r) readings) old new e f status → (status < 2 → AllByRecursion RecordsFit (drop 2 readings)) → status < 2 → RunHolds r old new status
+  run_holds r old new e f status [] read by fits below = absurd read
+  run_holds r old new e f status (first ∷ []) (read, none) by fits below = absurd none
+  run_holds r old new e f status (first ∷ second ∷ rest) (read, (read_too, reads)) by fits below =
       let (end, done) = decided _ old new e f status by below in
-      run_claims runs_hold spelled r old new first second status read read_too below end done
-  run_holds r old new e f status (first ∷ second ∷ third ∷ more) read by below =
-      let ((line, is), done) = decided _ old new e f status by below in
-      absurd (cc)
+      run_claims runs_hold spelled r old new first second rest status read read_too reads (fits below) below end done
 
   pub holds_under : (words : List (List ℕ)) (request : Option Request) (old new : World) (e f : ErrorSink) (status : ℕ)
-      → EndsUnder words request old new e f status → HoldsUnder request old new status
-  holds_under words None old new e f status ended = tt
-  holds_under words (Some (Hop key name)) old new e f status ended = λ below. hop_holds key name old new e f status ended.readings ended.are_read ended.ends below
-  holds_under words (Some (Run r)) old new e f status ended = λ below. run_holds r old new e f status ended.readings ended.are_read ended.ends below
+      → HasFew request → EndsUnder words request old new e f status → HoldsUnder request old new status
+  holds_under words None old new e f status few ended = tt
+  holds_under words (Some (Hop key name)) old new e f status few ended = λ below. hop_holds key name old new e f status ended.readings ended.are_read ended.ends below
+  holds_under words (Some (Run r)) old new e f status few ended = λ below. run_holds r old new e f status ended.readings ended.are_read ended.ends ended.fits below
+  holds_under words (Some (Gen seed packets)) old new e f status few ended =
+      λ below. gen_holds runs_hold seed packets old new e f status ended.readings few ended.are_read ended.ends below

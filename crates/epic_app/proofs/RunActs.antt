@@ -1,12 +1,13 @@
 -- What the acts of a run write, and save.
-use Rattle.std.proofs.Common.{◌≡◌, ℕ, List, [], ◌∷◌, ◌++◌, length, fold, map, flat_map, Option, Some, None, refl, ap, ◌∙◌, append-nil}
-use Rattle.epic_capture.specs.Saving.{file_head, saved}
+use Rattle.std.proofs.Common.{◌≡◌, ℕ, List, [], ◌∷◌, ◌++◌, length, map, flat_map, Option, Some, None, refl, ap, ◌∙◌, append-nil}
+use Rattle.epic_capture.specs.Saving.{file_head}
 use Rattle.epic_ports.specs.Files.{Files}
 use Rattle.epic_text.specs.Counts.{counts_of, end_line}
 use Rattle.epic_topo.specs.Network.{Network}
 use Rattle.epic_world.specs.Run.{Done}
-use Rattle.epic_app.specs.Acts.{Act, Append, FilesBecome, appends, creates, printed, prints}
+use Rattle.epic_app.specs.Acts.{Append, FilesBecome, appends, creates, printed, prints}
 use Rattle.epic_app.specs.Claims.{Saves}
+use Rattle.epic_app.specs.Captures.{shown}
 use Rattle.epic_app.specs.Doing.{run_acts, step_acts}
 use Rattle.epic_app.specs.RunReport.{all_verdicts, run_text, step_text, steps_text}
 use Rattle.epic_app.specs.Saved.{captured_by, opening, saved_in}
@@ -36,40 +37,40 @@ printed-opening save =
     printed-append (creates save) (appends save file_head)
     ∙ (ap (λ text. text ++ printed (appends save file_head)) (printed-creates save) ∙ printed-appends save file_head)
 
-module _ (save : Option (List ℕ)) (t : Network) where
-  printed-step : (d : Done) → printed (step_acts save t d) ≡ step_text t d
+module _ (save : Option (List ℕ)) (script : ℕ) (t : Network) where
+  printed-step : (d : Done) → printed (step_acts save script t d) ≡ step_text script t d
   unfolding step_acts
   printed-step d =
-      printed-append (prints (step_text t d)) (appends save (saved_in d))
-      ∙ (ap (λ text. printed (prints (step_text t d)) ++ text) (printed-appends save (saved_in d))
-      ∙ (append-nil (printed (prints (step_text t d))) ∙ printed-prints (step_text t d)))
+      printed-append (prints (step_text script t d)) (appends save (saved_in d))
+      ∙ (ap (λ text. printed (prints (step_text script t d)) ++ text) (printed-appends save (saved_in d))
+      ∙ (append-nil (printed (prints (step_text script t d))) ∙ printed-prints (step_text script t d)))
 
-  printed-steps : (steps : List Done) → printed (flat_map (step_acts save t) steps) ≡ steps_text t steps
+  printed-steps : (steps : List Done) → printed (flat_map (step_acts save script t) steps) ≡ steps_text script t steps
   unfolding steps_text printed
   printed-steps [] = refl
   printed-steps (d ∷ steps) =
-      printed-append (step_acts save t d) (flat_map (step_acts save t) steps)
-      ∙ (ap (λ text. text ++ printed (flat_map (step_acts save t) steps)) (printed-step d) ∙ ap (λ text. step_text t d ++ text) (printed-steps steps))
+      printed-append (step_acts save script t d) (flat_map (step_acts save script t) steps)
+      ∙ (ap (λ text. text ++ printed (flat_map (step_acts save script t) steps)) (printed-step d) ∙ ap (λ text. step_text script t d ++ text) (printed-steps steps))
 
-  pub printed-run : (steps : List Done) → printed (run_acts save t steps) ≡ run_text t steps
+  pub printed-run : (steps : List Done) → printed (run_acts save script t steps) ≡ run_text script t steps
   unfolding run_acts run_text
   printed-run steps =
-      let acts = flat_map (step_acts save t) steps in
-      let end = end_line (counts_of (length steps) (all_verdicts steps)) in
+      let acts = flat_map (step_acts save script t) steps in
+      let end = end_line (counts_of (shown script (length steps)) (all_verdicts steps)) in
       printed-append (opening save) (acts ++ prints end)
       ∙ (ap (λ text. text ++ printed (acts ++ prints end)) (printed-opening save)
       ∙ (printed-append acts (prints end)
-      ∙ (ap (λ text. text ++ printed (prints end)) (printed-steps steps) ∙ ap (λ text. steps_text t steps ++ text) (printed-prints end))))
+      ∙ (ap (λ text. text ++ printed (prints end)) (printed-steps steps) ∙ ap (λ text. steps_text script t steps ++ text) (printed-prints end))))
 
 -- ---- the saved file
 
-told_saved : (name : List ℕ) (t : Network) (steps : List Done) (old new : Option Files) → FilesBecome (run_acts (Some name) t steps) old new
+told_saved : (name : List ℕ) (script : ℕ) (t : Network) (steps : List Done) (old new : Option Files) → FilesBecome (run_acts (Some name) script t steps) old new
     → Saves (Some name) (captured_by steps) old new
-told_saved name t steps None new becomes = tt
-told_saved name t steps (Some f) None becomes = absurd becomes
-told_saved name t steps (Some f) (Some g) becomes = becomes name ∙ (saved_is_whole name t steps).whole (f name)
+told_saved name script t steps None new becomes = tt
+told_saved name script t steps (Some f) None becomes = absurd becomes
+told_saved name script t steps (Some f) (Some g) becomes = becomes name ∙ (saved_is_whole name script t steps).whole (f name)
 
-pub saves_whole : (save : Option (List ℕ)) (t : Network) (steps : List Done) (old new : Option Files) → FilesBecome (run_acts save t steps) old new
+pub saves_whole : (save : Option (List ℕ)) (script : ℕ) (t : Network) (steps : List Done) (old new : Option Files) → FilesBecome (run_acts save script t steps) old new
     → Saves save (captured_by steps) old new
-saves_whole None t steps old new becomes = tt
-saves_whole (Some name) t steps old new becomes = told_saved name t steps old new becomes
+saves_whole None script t steps old new becomes = tt
+saves_whole (Some name) script t steps old new becomes = told_saved name script t steps old new becomes

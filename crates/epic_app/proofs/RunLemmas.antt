@@ -9,14 +9,14 @@ use Rattle.epic_num.specs.declared.command.Command.{Command}
 use Rattle.epic_num.specs.declared.verdict.Verdict.{Verdict}
 use Rattle.epic_topo.specs.Network.{Network}
 use Rattle.epic_text.specs.declared.counts.Counts.{Counts}
-use Rattle.epic_text.specs.Counts.{counted, counts_of, end_line, is_forged, is_collided}
+use Rattle.epic_text.specs.Counts.{counted, counts_of, is_forged, is_collided}
 use Rattle.epic_text.proofs.CountLemmas.{counts_of-last}
 use Rattle.epic_model.specs.State.{State, start}
 use Rattle.epic_model.specs.Steps.{next}
 use Rattle.epic_world.specs.Run.{Done, done_by, run_from, state_after, run}
-use Rattle.epic_app.specs.Acts.{Act, prints}
-use Rattle.epic_app.specs.Doing.{run_acts, step_acts}
-use Rattle.epic_app.specs.RunReport.{all_verdicts, verdicts_in, is_alarm, has_alarm}
+use Rattle.epic_app.specs.Acts.{Act}
+use Rattle.epic_app.specs.Doing.{step_acts, steps_acts}
+use Rattle.epic_app.specs.RunReport.{all_verdicts, verdicts_in, is_alarm}
 use Rattle.epic_app.specs.Saved.{opening}
 use Rattle.epic_app.specs.StepLines.{count_all}
 
@@ -48,12 +48,12 @@ state_last t s xs c = state_after-append t s xs (c ∷ [])
 
 -- ---- their texts and verdicts
 
-pub acts_last : (save : Option (List ℕ)) (t : Network) (s : State) (xs : List Command) (c : Command)
-    → flat_map (step_acts save t) (run_from t s (xs ++ c ∷ [])) ≡ flat_map (step_acts save t) (run_from t s xs) ++ step_acts save t (done_by t (state_after t s xs) c)
-acts_last save t s xs c =
-    ap (flat_map (step_acts save t)) (run_last t s xs c)
-    ∙ (flat_map-append (step_acts save t) (run_from t s xs) (done_by t (state_after t s xs) c ∷ [])
-    ∙ ap (λ acts. flat_map (step_acts save t) (run_from t s xs) ++ acts) (append-nil (step_acts save t (done_by t (state_after t s xs) c))))
+pub acts_last : (save : Option (List ℕ)) (script : ℕ) (t : Network) (s : State) (xs : List Command) (c : Command)
+    → flat_map (step_acts save script t) (run_from t s (xs ++ c ∷ [])) ≡ flat_map (step_acts save script t) (run_from t s xs) ++ step_acts save script t (done_by t (state_after t s xs) c)
+acts_last save script t s xs c =
+    ap (flat_map (step_acts save script t)) (run_last t s xs c)
+    ∙ (flat_map-append (step_acts save script t) (run_from t s xs) (done_by t (state_after t s xs) c ∷ [])
+    ∙ ap (λ acts. flat_map (step_acts save script t) (run_from t s xs) ++ acts) (append-nil (step_acts save script t (done_by t (state_after t s xs) c))))
 
 pub verdicts_last : (t : Network) (s : State) (xs : List Command) (c : Command)
     → all_verdicts (run_from t s (xs ++ c ∷ [])) ≡ all_verdicts (run_from t s xs) ++ verdicts_in (next t (state_after t s xs) c).answer
@@ -64,14 +64,14 @@ verdicts_last t s xs c =
     ∙ ap (λ vs. flat_map (λ (d : Done). verdicts_in d.answer) (run_from t s xs) ++ vs) (append-nil (verdicts_in (next t (state_after t s xs) c).answer)))
 
 -- all acts, in those of a front of the commands and the rest
-pub acts_front : (save : Option (List ℕ)) (t : Network) (s : State) (xs : List Command) (c : Command) (ys : List Command)
-    → flat_map (step_acts save t) (run_from t s (xs ++ c ∷ ys))
-    ≡ flat_map (step_acts save t) (run_from t s xs)
-    ++ (step_acts save t (done_by t (state_after t s xs) c) ++ flat_map (step_acts save t) (run_from t (next t (state_after t s xs) c).state ys))
+pub acts_front : (save : Option (List ℕ)) (script : ℕ) (t : Network) (s : State) (xs : List Command) (c : Command) (ys : List Command)
+    → flat_map (step_acts save script t) (run_from t s (xs ++ c ∷ ys))
+    ≡ flat_map (step_acts save script t) (run_from t s xs)
+    ++ (step_acts save script t (done_by t (state_after t s xs) c) ++ flat_map (step_acts save script t) (run_from t (next t (state_after t s xs) c).state ys))
 unfolding run_from
-acts_front save t s xs c ys =
-    ap (flat_map (step_acts save t)) (run_from-append t s xs (c ∷ ys))
-    ∙ flat_map-append (step_acts save t) (run_from t s xs) (done_by t (state_after t s xs) c ∷ run_from t (next t (state_after t s xs) c).state ys)
+acts_front save script t s xs c ys =
+    ap (flat_map (step_acts save script t)) (run_from-append t s xs (c ∷ ys))
+    ∙ flat_map-append (step_acts save script t) (run_from t s xs) (done_by t (state_after t s xs) c ∷ run_from t (next t (state_after t s xs) c).state ys)
 
 -- ---- counts
 
@@ -108,68 +108,44 @@ unfolding count_all
 count_end c vs i all past counts = sym (ap (count_all c) (drop_all i vs past)) ∙ counts
 
 -- the acts of the opening, and of the commands up to a place
-abbrev pub acts_until : Option (List ℕ) → Network → List Command → ℕ → List Act
-acts_until save t cs i = opening save ++ flat_map (step_acts save t) (run_from t start (take i cs))
+abbrev pub acts_until : Option (List ℕ) → ℕ → Network → List Command → ℕ → List Act
+acts_until save script t cs i = opening save ++ flat_map (step_acts save script t) (run_from t start (take i cs))
 
 -- where the commands up to a place were done, one more command is
-module _ (save : Option (List ℕ)) (t : Network) (cs : List Command) (i : ℕ) (d : Command) (within : i < length cs) where
+module _ (save : Option (List ℕ)) (script : ℕ) (t : Network) (cs : List Command) (i : ℕ) (d : Command) (within : i < length cs) where
   next_front : take (i + 1) cs ≡ take i cs ++ get_or cs i d ∷ []
   next_front = take_more cs i d within
 
   pub next_state : state_after t start (take (i + 1) cs) ≡ (next t (state_after t start (take i cs)) (get_or cs i d)).state
   next_state = ap (state_after t start) next_front ∙ state_last t start (take i cs) (get_or cs i d)
 
-  pub next_acts : acts_until save t cs (i + 1) ≡ acts_until save t cs i ++ step_acts save t (done_by t (state_after t start (take i cs)) (get_or cs i d))
-  next_acts =
-      ap (λ xs. opening save ++ flat_map (step_acts save t) (run_from t start xs)) next_front
-      ∙ (ap (λ acts. opening save ++ acts) (acts_last save t start (take i cs) (get_or cs i d))
-      ∙ sym (append_assoc (opening save) (flat_map (step_acts save t) (run_from t start (take i cs))) (step_acts save t (done_by t (state_after t start (take i cs)) (get_or cs i d)))))
-
   pub next_verdicts : all_verdicts (run_from t start (take (i + 1) cs))
       ≡ all_verdicts (run_from t start (take i cs)) ++ verdicts_in (next t (state_after t start (take i cs)) (get_or cs i d)).answer
   next_verdicts = ap (λ xs. all_verdicts (run_from t start xs)) next_front ∙ verdicts_last t start (take i cs) (get_or cs i d)
 
   -- all acts begin with those that were done and those of this command
-  pub run_front : (more : List Act) × (run_acts save t (run t cs) ≡ acts_until save t cs i ++ (step_acts save t (done_by t (state_after t start (take i cs)) (get_or cs i d)) ++ more))
-  unfolding run_acts run
+  pub run_front : (more : List Act) × (steps_acts save script t (run t cs) ≡ acts_until save script t cs i ++ (step_acts save script t (done_by t (state_after t start (take i cs)) (get_or cs i d)) ++ more))
+  unfolding steps_acts run
   run_front =
       let c = get_or cs i d in
       let s = state_after t start (take i cs) in
-      let front = flat_map (step_acts save t) (run_from t start (take i cs)) in
-      let step = step_acts save t (done_by t s c) in
-      let rest = flat_map (step_acts save t) (run_from t (next t s c).state (drop (i + 1) cs)) in
-      let end = prints (end_line (counts_of (length (run_from t start cs)) (all_verdicts (run_from t start cs)))) in
+      let front = flat_map (step_acts save script t) (run_from t start (take i cs)) in
+      let step = step_acts save script t (done_by t s c) in
+      let rest = flat_map (step_acts save script t) (run_from t (next t s c).state (drop (i + 1) cs)) in
       let whole : cs ≡ take i cs ++ c ∷ drop (i + 1) cs = sym (take-append-drop i cs) ∙ ap (λ ys. take i cs ++ ys) (drop_more cs i d within) in
-      let steps : flat_map (step_acts save t) (run_from t start cs) ≡ front ++ (step ++ rest) =
-      ap (λ xs. flat_map (step_acts save t) (run_from t start xs)) whole ∙ acts_front save t start (take i cs) c (drop (i + 1) cs) in
-      let behind : (front ++ (step ++ rest)) ++ end ≡ front ++ (step ++ (rest ++ end)) =
-      append_assoc front (step ++ rest) end ∙ ap (λ acts. front ++ acts) (append_assoc step rest end) in (
-        rest ++ end,
-        ap (λ acts. opening save ++ (acts ++ end)) steps
-            ∙ (ap (λ acts. opening save ++ acts) behind ∙ sym (append_assoc (opening save) front (step ++ (rest ++ end)))),
+      let steps : flat_map (step_acts save script t) (run_from t start cs) ≡ front ++ (step ++ rest) =
+      ap (λ xs. flat_map (step_acts save script t) (run_from t start xs)) whole ∙ acts_front save script t start (take i cs) c (drop (i + 1) cs) in (
+        rest,
+        ap (λ acts. opening save ++ acts) steps ∙ sym (append_assoc (opening save) front (step ++ rest)),
       )
 
 -- all acts begin with the opening
-pub run_opening : (save : Option (List ℕ)) (t : Network) (cs : List Command) → (more : List Act) × (run_acts save t (run t cs) ≡ opening save ++ more)
-unfolding run_acts
-run_opening save t cs = (_, refl)
+pub run_opening : (save : Option (List ℕ)) (script : ℕ) (t : Network) (cs : List Command) → (more : List Act) × (steps_acts save script t (run t cs) ≡ opening save ++ more)
+unfolding steps_acts
+run_opening save script t cs = (_, refl)
 
--- the end of the report
-pub run_whole : (save : Option (List ℕ)) (t : Network) (cs : List Command) (i : ℕ) (c : Counts) → length cs ≤ i → c ≡ counts_of 0 (all_verdicts (run_from t start (take i cs)))
-    → run_acts save t (run t cs) ≡ acts_until save t cs i ++ prints (end_line (record c { steps = length cs }))
-unfolding run_acts run
-run_whole save t cs i c past is =
-    let all : take i cs ≡ cs = take_all i cs past in
-    let counts : c ≡ counts_of 0 (all_verdicts (run_from t start cs)) = is ∙ ap (λ xs. counts_of 0 (all_verdicts (run_from t start xs))) all in
-    let ended : end_line (record c { steps = length cs }) ≡ end_line (counts_of (length (run_from t start cs)) (all_verdicts (run_from t start cs))) =
-    ap (λ (k : Counts). end_line (record k { steps = length cs })) counts
-    ∙ ap (λ n. end_line (counts_of n (all_verdicts (run_from t start cs)))) (sym (length-run_from t start cs)) in
-    rw (all, ended) (sym (append_assoc (opening save) (flat_map (step_acts save t) (run_from t start cs)) (prints (end_line (counts_of (length (run_from t start cs)) (all_verdicts (run_from t start cs)))))))
-
-pub run_alarms : (t : Network) (cs : List Command) (i : ℕ) (c : Counts) → length cs ≤ i → c ≡ counts_of 0 (all_verdicts (run_from t start (take i cs)))
-    → (ltb 0 c.forged || ltb 0 c.collided) ≡ has_alarm (run t cs)
-unfolding has_alarm run
-run_alarms t cs i c past is =
-    let all : take i cs ≡ cs = take_all i cs past in
-    let counts : c ≡ counts_of 0 (all_verdicts (run_from t start cs)) = is ∙ ap (λ xs. counts_of 0 (all_verdicts (run_from t start xs))) all in
-    ap (λ (k : Counts). ltb 0 k.forged || ltb 0 k.collided) counts ∙ alarms (all_verdicts (run_from t start cs))
+-- after all commands they are all acts
+pub run_whole : (save : Option (List ℕ)) (script : ℕ) (t : Network) (cs : List Command) (i : ℕ) → length cs ≤ i
+    → steps_acts save script t (run t cs) ≡ acts_until save script t cs i
+unfolding steps_acts run
+run_whole save script t cs i past = ap (λ xs. opening save ++ flat_map (step_acts save script t) (run_from t start xs)) (sym (take_all i cs past))

@@ -1,15 +1,15 @@
 -- What a run makes of the file that it saves.
-use Rattle.std.proofs.Common.{◌≡◌, ◌≢◌, ◌⊎◌, ℕ, Bool, true, false, cond, List, [], ◌∷◌, ◌++◌, map, fold, length, drop, get_or, Option, Some, None, flat_map, refl, sym, ap, subst, ◌∙◌, inl, inr, append_assoc, append-nil, bytes_eq}
+use Rattle.std.proofs.Common.{◌≡◌, ◌≢◌, ℕ, Bool, true, false, cond, List, [], ◌∷◌, ◌++◌, fold, length, drop, get_or, Option, Some, flat_map, refl, sym, ap, subst, ◌∙◌, inl, inr, append_assoc, append-nil, bytes_eq}
 use Rattle.std.specs.Prelude.{⊤}
 use Rattle.std.proofs.lemmas.List.Concat.{flat_map-append}
 use Rattle.std.proofs.lemmas.Slice.Eq.{bytes_eq-Decides}
-use Rattle.epic_capture.specs.Records.{Captured}
 use Rattle.epic_capture.specs.Saving.{file_head, saved, saved_record}
 use Rattle.epic_ports.specs.Files.{bytes_or_none}
 use Rattle.epic_text.specs.Counts.{counts_of, end_line}
 use Rattle.epic_topo.specs.Network.{Network}
 use Rattle.epic_world.specs.Run.{Done}
 use Rattle.epic_app.specs.Acts.{Act, Print, Create, Append, after_act, appends, creates, prints}
+use Rattle.epic_app.specs.Captures.{shown}
 use Rattle.epic_app.specs.Doing.{run_acts, step_acts}
 use Rattle.epic_app.specs.RunReport.{all_verdicts, step_text}
 use Rattle.epic_app.specs.Saved.{captured_by, captured_in, opening, saved_in}
@@ -101,28 +101,28 @@ unfolding appends
 of_appends name [] = tt
 of_appends name (byte ∷ text) = (refl, of_appends name text)
 
-module _ (name : List ℕ) (t : Network) where
-  of_step : (d : Done) → IsOf name (step_acts (Some name) t d)
+module _ (name : List ℕ) (script : ℕ) (t : Network) where
+  of_step : (d : Done) → IsOf name (step_acts (Some name) script t d)
   unfolding step_acts
-  of_step d = of_both name (prints (step_text t d)) (appends (Some name) (saved_in d)) (of_prints name (step_text t d)) (of_appends name (saved_in d))
+  of_step d = of_both name (prints (step_text script t d)) (appends (Some name) (saved_in d)) (of_prints name (step_text script t d)) (of_appends name (saved_in d))
 
-  added-step : (d : Done) → added (step_acts (Some name) t d) ≡ saved_in d
+  added-step : (d : Done) → added (step_acts (Some name) script t d) ≡ saved_in d
   unfolding step_acts
   added-step d =
-      added-append (prints (step_text t d)) (appends (Some name) (saved_in d))
-      ∙ (ap (λ bytes. bytes ++ added (appends (Some name) (saved_in d))) (added-prints (step_text t d)) ∙ added-appends name (saved_in d))
+      added-append (prints (step_text script t d)) (appends (Some name) (saved_in d))
+      ∙ (ap (λ bytes. bytes ++ added (appends (Some name) (saved_in d))) (added-prints (step_text script t d)) ∙ added-appends name (saved_in d))
 
-  of_steps : (steps : List Done) → IsOf name (flat_map (step_acts (Some name) t) steps)
+  of_steps : (steps : List Done) → IsOf name (flat_map (step_acts (Some name) script t) steps)
   of_steps [] = tt
-  of_steps (d ∷ steps) = of_both name (step_acts (Some name) t d) (flat_map (step_acts (Some name) t) steps) (of_step d) (of_steps steps)
+  of_steps (d ∷ steps) = of_both name (step_acts (Some name) script t d) (flat_map (step_acts (Some name) script t) steps) (of_step d) (of_steps steps)
 
   -- they add the records of what was emitted
-  added-steps : (steps : List Done) → added (flat_map (step_acts (Some name) t) steps) ≡ flat_map saved_record (captured_by steps)
+  added-steps : (steps : List Done) → added (flat_map (step_acts (Some name) script t) steps) ≡ flat_map saved_record (captured_by steps)
   unfolding captured_by saved_in
   added-steps [] = refl
   added-steps (d ∷ steps) =
-      added-append (step_acts (Some name) t d) (flat_map (step_acts (Some name) t) steps)
-      ∙ (ap (λ bytes. bytes ++ added (flat_map (step_acts (Some name) t) steps)) (added-step d)
+      added-append (step_acts (Some name) script t d) (flat_map (step_acts (Some name) script t) steps)
+      ∙ (ap (λ bytes. bytes ++ added (flat_map (step_acts (Some name) script t) steps)) (added-step d)
       ∙ (ap (λ bytes. flat_map saved_record (captured_in d) ++ bytes) (added-steps steps)
       ∙ sym (flat_map-append saved_record (captured_in d) (flat_map captured_in steps))))
 
@@ -130,25 +130,25 @@ module _ (name : List ℕ) (t : Network) where
   rest : List Done → List Act
   rest steps =
       appends (Some name) file_head
-      ++ (flat_map (step_acts (Some name) t) steps ++ prints (end_line (counts_of (length steps) (all_verdicts steps))))
+      ++ (flat_map (step_acts (Some name) script t) steps ++ prints (end_line (counts_of (shown script (length steps)) (all_verdicts steps))))
 
-  run_acts-is : (steps : List Done) → run_acts (Some name) t steps ≡ Create name ∷ rest steps
+  run_acts-is : (steps : List Done) → run_acts (Some name) script t steps ≡ Create name ∷ rest steps
   unfolding run_acts opening creates rest appends
   run_acts-is steps = refl
 
   of_rest : (steps : List Done) → IsOf name (rest steps)
   unfolding rest appends
   of_rest steps =
-      let acts = flat_map (step_acts (Some name) t) steps in
-      let end = end_line (counts_of (length steps) (all_verdicts steps)) in
+      let acts = flat_map (step_acts (Some name) script t) steps in
+      let end = end_line (counts_of (shown script (length steps)) (all_verdicts steps)) in
       of_both name (appends (Some name) file_head) (acts ++ prints end) (of_appends name file_head)
       (of_both name acts (prints end) (of_steps steps) (of_prints name end))
 
   added-rest : (steps : List Done) → added (rest steps) ≡ saved (captured_by steps)
   unfolding rest appends
   added-rest steps =
-      let acts = flat_map (step_acts (Some name) t) steps in
-      let end = end_line (counts_of (length steps) (all_verdicts steps)) in
+      let acts = flat_map (step_acts (Some name) script t) steps in
+      let end = end_line (counts_of (shown script (length steps)) (all_verdicts steps)) in
       let last : added (acts ++ prints end) ≡ flat_map saved_record (captured_by steps) =
       added-append acts (prints end) ∙ (ap (λ bytes. added acts ++ bytes) (added-prints end) ∙ (append-nil (added acts) ∙ added-steps steps)) in
       added-append (appends (Some name) file_head) (acts ++ prints end)
@@ -188,8 +188,8 @@ module _ (name : List ℕ) (t : Network) where
       ap (λ a. fold (after_act q) old (a ∷ before)) (sym first) ∙ made_other q old before other are
 
 pub saved_is_whole : SavedIsWhole
-saved_is_whole = λ name t steps. record {
-  whole = λ old. ap (fold (after_act name) old) (run_acts-is name t steps) ∙ (made name t old (rest name t steps) (of_rest name t steps) ∙ ap Some (added-rest name t steps));
-  front = λ old before after order. front_is name t steps old before after (sym (run_acts-is name t steps) ∙ order);
-  others = λ q old before after other order. others_stay name t q steps old before after other (sym (run_acts-is name t steps) ∙ order);
+saved_is_whole = λ name script t steps. record {
+  whole = λ old. ap (fold (after_act name) old) (run_acts-is name script t steps) ∙ (made name script t old (rest name script t steps) (of_rest name script t steps) ∙ ap Some (added-rest name script t steps));
+  front = λ old before after order. front_is name script t steps old before after (sym (run_acts-is name script t steps) ∙ order);
+  others = λ q old before after other order. others_stay name script t q steps old before after other (sym (run_acts-is name script t steps) ∙ order);
 }

@@ -1,13 +1,17 @@
 -- What the report of a command that was done claims, for a reader.
-use Rattle.std.specs.Prelude.{◌≡◌, ℕ, ◌<◌, ◌↔◌, List, [], Option, Some, None, Ok, IsTrue, ⊤}
+use Rattle.std.specs.Prelude.{◌≡◌, ℕ, ◌<◌, ◌↔◌, List, [], length, Option, Some, None, Ok, IsTrue, ⊤}
 use Rattle.std.specs.List.{All, list_any}
 use Rattle.epic_num.specs.declared.command.Command.{Command}
 use Rattle.epic_capture.specs.Records.{Captured}
 use Rattle.epic_capture.specs.Saving.{saved}
+use Rattle.epic_feed.specs.Forms.{records_in}
 use Rattle.epic_ports.specs.Files.{Files}
 use Rattle.epic_ports.specs.Written.{Appends}
 use Rattle.epic_topo.specs.Network.{Network}
 use Rattle.epic_topo.specs.Reading.{topology as topology_of}
+use Rattle.epic_gen.specs.Script.{generated}
+use Rattle.epic_gen.specs.Text.{topology_text}
+use Rattle.epic_gen.specs.Topology.{generated_network}
 use Rattle.epic_model.specs.State.{start}
 use Rattle.epic_text.specs.RunScript.{run_rule}
 use Rattle.epic_text.specs.Script.{commands_of}
@@ -16,13 +20,14 @@ use Rattle.epic_world.specs.Sound.{StateHolds, StepHolds}
 use Rattle.epic_app.specs.declared.hop_answer.HopAnswer.{HopAnswer}
 use Rattle.epic_app.specs.declared.hop_file.HopCommand.{HopCommand}
 use Rattle.epic_app.specs.Acts.{World}
+use Rattle.epic_app.specs.Captures.{run_commands}
+use Rattle.epic_app.specs.Generating.{gen_text, generated_steps}
 use Rattle.epic_app.specs.HopFile.{hop_rule}
 use Rattle.epic_app.specs.HopReport.{AllHold, is_forged, report_text}
 use Rattle.epic_app.specs.Readings.{Holds}
-use Rattle.epic_words.specs.Request.{Request, Hop, Run, RunRequest}
+use Rattle.epic_words.specs.Request.{Request, Hop, Run, Gen, RunRequest, request_of}
 use Rattle.epic_app.specs.RunReport.{run_text, has_alarm}
 use Rattle.epic_app.specs.Saved.{captured_by}
-use Rattle.epic_app.specs.Served.{asked}
 
 -- the file holds commands; the lines are those of answers, each of which holds; status 1 tells that one is forged
 pub record HopHolds (key name : List ℕ) (old new : World) (status : ℕ) : Type 0 where
@@ -41,7 +46,13 @@ Saves None records old new = ⊤
 Saves (Some name) records None new = ⊤
 Saves (Some name) records (Some old) new = Holds new name (saved records)
 
--- The files hold a topology and commands; the lines are those of the commands' steps. Each step goes on from a state that holds: the
+-- a capture holds these records and no damage, if one is named; else there are none
+abbrev pub HoldsRecords : Option (List ℕ) → Option Files → List Captured → Type 0
+HoldsRecords None files records = records ≡ []
+HoldsRecords (Some name) files records =
+    (bytes : List ℕ) × Holds files name bytes × (records_in bytes ≡ record { items = records; damage = None })
+
+-- The files hold a topology, commands and records; the lines are those of the steps of the commands and of the records. Each step goes on from a state that holds: the
 -- verdicts of its passages are true, each over the ledger before its passage, and honest packets are carried. So does the end of the
 -- run. Status 1 tells that a verdict says forged or collided. The saved file holds a capture of what was emitted.
 pub record RunHolds (r : RunRequest) (old new : World) (status : ℕ) : Type 0 where
@@ -53,16 +64,28 @@ pub record RunHolds (r : RunRequest) (old new : World) (status : ℕ) : Type 0 w
   pub is_network : topology_of text ≡ Ok network
   pub commands : List Command
   pub are_commands : commands_of run_rule bytes ≡ Ok commands
-  pub steps : All (StepHolds network) (run network commands)
-  pub last : StateHolds network (state_after network start commands)
-  pub report : Appends old.written new.written (run_text network (run network commands))
-  pub alarm : (status ≡ 1) ↔ IsTrue (has_alarm (run network commands))
-  pub saved : Saves r.save (captured_by (run network commands)) old.contents new.contents
+  pub records : List Captured
+  pub are_records : HoldsRecords r.capture old.contents records
+  pub steps : All (StepHolds network) (run network (run_commands commands records))
+  pub last : StateHolds network (state_after network start (run_commands commands records))
+  pub report : Appends old.written new.written (run_text (length commands) network (run network (run_commands commands records)))
+  pub alarm : (status ≡ 1) ↔ IsTrue (has_alarm (run network (run_commands commands records)))
+  pub saved : Saves r.save (captured_by (run network (run_commands commands records))) old.contents new.contents
+
+-- The two lines are those of the generated commands' steps over the generated topology, whose text `run` reads as it. Each step goes on
+-- from a state that holds, and so does the end of the run, as for `run`. Status 1 tells that a verdict says forged or collided.
+pub record GenHolds (seed packets : ℕ) (old new : World) (status : ℕ) : Type 0 where
+  pub is_network : topology_of (topology_text seed) ≡ Ok (generated_network seed)
+  pub steps : All (StepHolds (generated_network seed)) (generated_steps seed packets)
+  pub last : StateHolds (generated_network seed) (state_after (generated_network seed) start (generated seed packets))
+  pub report : Appends old.written new.written (gen_text (generated_network seed) (generated_steps seed packets))
+  pub alarm : (status ≡ 1) ↔ IsTrue (has_alarm (generated_steps seed packets))
 
 abbrev pub HoldsUnder : Option Request → World → World → ℕ → Type 0
 HoldsUnder None old new status = ⊤
 HoldsUnder (Some (Hop key name)) old new status = status < 2 → HopHolds key name old new status
 HoldsUnder (Some (Run r)) old new status = status < 2 → RunHolds r old new status
+HoldsUnder (Some (Gen seed packets)) old new status = status < 2 → GenHolds seed packets old new status
 
 abbrev pub ReportHolds : List (List ℕ) → World → World → ℕ → Type 0
-ReportHolds words old new status = HoldsUnder (asked words) old new status
+ReportHolds words old new status = HoldsUnder (request_of words) old new status

@@ -1,22 +1,28 @@
 -- What a command does, from what it read of its files. A new command adds a case to `doing`.
 use Rattle.std.specs.Prelude.{ℕ, Bool, if◌then◌else◌, nat_lt, List, [], ◌∷◌, ◌++◌, length, count_by, flat_map, Option, Some, None, Result, Ok, Err}
 use Rattle.epic_num.specs.declared.command.Command.{Command}
+use Rattle.epic_capture.specs.Records.{Captured}
+use Rattle.epic_feed.specs.declared.damage.Damage.{Damage}
+use Rattle.epic_feed.specs.Forms.{records_in}
 use Rattle.epic_topo.specs.Network.{Network}
 use Rattle.epic_topo.specs.Reading.{topology as topology_of}
 use Rattle.epic_topo.specs.declared.fault.TopoError.{TopoError}
 use Rattle.epic_topo.specs.declared.fault.TopoError.TheVariants.{Bad, OutOfMemory}
+use Rattle.epic_gen.specs.Topology.{generated_network}
 use Rattle.epic_text.specs.Counts.{counts_of, end_line}
 use Rattle.epic_text.specs.RunScript.{run_rule}
 use Rattle.epic_text.specs.Script.{Fault, Rule, commands_of}
 use Rattle.epic_world.specs.Run.{Done, run}
 use Rattle.epic_app.specs.declared.hop_file.HopCommand.{HopCommand}
 use Rattle.epic_app.specs.Acts.{Act, appends, prints}
-use Rattle.epic_app.specs.FaultLines.{fault_line, long_topology_line, read_line, too_long_line, topology_line}
+use Rattle.epic_app.specs.Captures.{run_commands, shown}
+use Rattle.epic_app.specs.FaultLines.{capture_line, fault_line, long_topology_line, read_line, too_long_line, topology_line}
+use Rattle.epic_app.specs.Generating.{gen_text, generated_steps}
 use Rattle.epic_app.specs.HopFile.{hop_rule}
 use Rattle.epic_app.specs.HopReport.{answers, hop_report, is_forged}
 use Rattle.epic_app.specs.Limits.{file_limit, script_limit, topology_limit}
 use Rattle.epic_app.specs.Readings.{Reading, Whole, Failed, Unread}
-use Rattle.epic_words.specs.Request.{Request, Hop, Run}
+use Rattle.epic_words.specs.Request.{Request, Hop, Run, Gen}
 use Rattle.epic_app.specs.RunReport.{all_verdicts, has_alarm, step_text}
 use Rattle.epic_app.specs.Saved.{opening, saved_in}
 
@@ -75,22 +81,58 @@ hop_done key commands =
     ends (prints (hop_report key commands)) (alarm_status (nat_lt 0 (count_by is_forged (answers key commands)))) []
 
 -- the lines of a step are written, and then what it emitted is saved
-unfoldable pub step_acts : Option (List ℕ) → Network → Done → List Act
-step_acts save t d = prints (step_text t d) ++ appends save (saved_in d)
+unfoldable pub step_acts : Option (List ℕ) → ℕ → Network → Done → List Act
+step_acts save script t d = prints (step_text script t d) ++ appends save (saved_in d)
 
--- the capture is opened, the steps are done, and at the end the line with the counts is written
-unfoldable pub run_acts : Option (List ℕ) → Network → List Done → List Act
-run_acts save t steps =
-    opening save ++ (flat_map (step_acts save t) steps ++ prints (end_line (counts_of (length steps) (all_verdicts steps))))
+-- the saved file is opened, and the steps are done
+unfoldable pub steps_acts : Option (List ℕ) → ℕ → Network → List Done → List Act
+steps_acts save script t steps = opening save ++ flat_map (step_acts save script t) steps
 
--- the script's commands are done one after the other
-unfoldable pub run_done : Option (List ℕ) → Network → List Command → Progress
-run_done save t commands = ends (run_acts save t (run t commands)) (alarm_status (has_alarm (run t commands))) []
+-- so, and at the end the line with the counts is written
+unfoldable pub run_acts : Option (List ℕ) → ℕ → Network → List Done → List Act
+run_acts save script t steps =
+    opening save
+    ++ (flat_map (step_acts save script t) steps ++ prints (end_line (counts_of (shown script (length steps)) (all_verdicts steps))))
+
+-- the script's commands and then those of records are done one after the other
+unfoldable pub run_done : Option (List ℕ) → Network → List Command → List Captured → Progress
+run_done save t commands records =
+    let steps = run t (run_commands commands records) in
+    ends (run_acts save (length commands) t steps) (alarm_status (has_alarm steps)) []
+
+-- they are done, but then the run ends without its last line
+unfoldable pub run_cut : Option (List ℕ) → Network → List Command → List Captured → ℕ → List ℕ → Progress
+run_cut save t commands records status line =
+    ends (steps_acts save (length commands) t (run t (run_commands commands records))) status line
+
+-- the records of a whole capture, up to its first damage
+unfoldable pub by_records : Option (List ℕ) → Network → List Command → List Captured → Option Damage → Progress
+by_records save t commands records None = run_done save t commands records
+by_records save t commands records (Some damage) = run_cut save t commands records 5 (capture_line damage)
+
+-- a run whose capture is this reading
+unfoldable pub on_capture : List ℕ → Reading → Option (List ℕ) → Network → List Command → Progress
+on_capture name (Whole bytes) save t commands = by_records save t commands (records_in bytes).items (records_in bytes).damage
+on_capture name (Failed front) save t commands = run_cut save t commands (records_in front).items 6 (read_line name)
+on_capture name Unread save t commands = goes_on (steps_acts save (length commands) t (run t commands))
+
+-- a run of a script, and of a capture if one is named
+unfoldable pub run_by : Option (List ℕ) → List Reading → Option (List ℕ) → Network → List Command → Progress
+run_by None [] save t commands = run_done save t commands []
+run_by (Some name) (reading ∷ []) save t commands = on_capture name reading save t commands
+run_by capture readings save t commands = goes_on []
+
+-- the generated commands are done over the generated topology
+unfoldable pub gen_done : ℕ → ℕ → Progress
+gen_done seed packets =
+    let steps = generated_steps seed packets in
+    ends (prints (gen_text (generated_network seed) steps)) (alarm_status (has_alarm steps)) []
 
 -- What a command does and how it ends, from a reading of each of its files; they are looked at in order, and the first that
 -- refuses or fails decides.
 unfoldable pub doing : Request → List Reading → Progress
 doing (Hop key name) (file ∷ []) = on_commands name file_limit hop_rule file (hop_done key)
-doing (Run r) (first ∷ second ∷ []) =
-    on_topology r.topology first (λ t. on_commands r.script script_limit run_rule second (run_done r.save t))
+doing (Run r) (first ∷ second ∷ rest) =
+    on_topology r.topology first (λ t. on_commands r.script script_limit run_rule second (run_by r.capture rest r.save t))
+doing (Gen seed packets) [] = gen_done seed packets
 doing request readings = goes_on []

@@ -5,6 +5,8 @@ use Rattle.epic_topo.specs.declared.fault.TopoKey.{TopoKey}
 use Rattle.epic_topo.specs.declared.fault.TopoKind.{TopoKind}
 use Rattle.epic_text.specs.declared.script.ScriptKind.{ScriptKind}
 use Rattle.epic_text.specs.declared.script.ScriptKind.TheVariants.{NotText, UnknownVerb, WordCount, BadWord, TooMany}
+use Rattle.epic_feed.specs.declared.damage.Damage.{Damage}
+use Rattle.epic_feed.specs.Damages.{offset_of, word_of}
 use Rattle.epic_app.specs.HopReport.{◌⊕◌}
 
 abbrev pub words_line : List ℕ
@@ -36,6 +38,11 @@ too_long_line = codes "epic: script too-long\n"
 
 abbrev pub read_line : List ℕ → List ℕ
 read_line name = codes "epic: read " ⊕ (name ⊕ codes "\n")
+
+-- the damage of a capture, and where it is
+abbrev pub capture_line : Damage → List ℕ
+capture_line damage =
+    codes "epic: capture " ⊕ (word_of damage ⊕ (codes " " ⊕ (decimal (offset_of damage) ⊕ codes "\n")))
 
 abbrev pub write_line : List ℕ
 write_line = codes "epic: write\n"

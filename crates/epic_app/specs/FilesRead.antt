@@ -1,6 +1,6 @@
 -- Private: serves proofs of this crate alone; no public contract cites it.
 -- What a file that was read leads to: a value, or an end of the command.
-use Rattle.std.specs.Prelude.{◌≡◌, ℕ, List, [], Option, Result, Ok, Err, IfErr, true, ⊤}
+use Rattle.std.specs.Prelude.{◌≡◌, ℕ, List, [], Option, Result, Ok, Err, IfErr, ⊤}
 use Rattle.epic_ports.specs.Faults.{Rose}
 use Rattle.epic_ports.specs.Files.{Files}
 use Rattle.epic_app.specs.declared.end.End.{End}

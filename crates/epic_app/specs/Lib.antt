@@ -4,6 +4,7 @@ pub mod Doing
 pub mod End
 pub mod FaultLines
 pub mod FilesRead
+pub mod Generating
 pub mod HopFile
 pub mod HopReport
 pub mod Limits
@@ -13,7 +14,9 @@ pub mod Readings
 pub mod RunReport
 pub mod Saved
 pub mod SavedFile
-pub mod Served
+pub mod Captures
 pub mod Spelling
 pub mod StepLines
 pub mod Writing
+pub mod Taking
+pub mod RunEnding

@@ -1,14 +1,15 @@
 -- How a command may end: the contract of the top call. A new command changes nothing here.
-use Rattle.std.specs.Prelude.{◌≡◌, ℕ, ◌<◌, ◌⊎◌, List, ◌++◌, Option, Some, None, Contains, IsTrue, codes, ⊤}
+use Rattle.std.specs.Prelude.{◌≡◌, ℕ, ◌<◌, ◌⊎◌, List, drop, Option, Some, None, Contains, IsTrue, codes, ⊤}
+use Rattle.std.specs.List.{AllByRecursion}
 use Rattle.epic_ports.specs.Faults.{Rose}
 use Rattle.epic_ports.specs.Files.{Files}
 use Rattle.epic_ports.specs.Written.{Appends, WritesBefore}
 use Rattle.epic_app.specs.Acts.{World, Does, StopsAt, StopsBefore}
+use Rattle.epic_app.specs.Captures.{RecordsFit}
 use Rattle.epic_app.specs.Doing.{Progress, doing}
 use Rattle.epic_app.specs.FaultLines.{memory_line, words_line, write_line}
-use Rattle.epic_app.specs.Served.{asked}
 use Rattle.epic_app.specs.Readings.{Reading, AreRead}
-use Rattle.epic_words.specs.Request.{Request, is_command, reads_of, writes_of}
+use Rattle.epic_words.specs.Request.{Request, is_command, reads_of, request_of, writes_of}
 
 -- the sink of errors
 pub record ErrorSink : Type 0 where
@@ -83,6 +84,8 @@ pub record EndsWith (request : Request) (old new : World) (e f : ErrorSink) (sta
   pub ends : EndsBy (doing request readings) old new e f status
   -- where nothing fails, the files decide, or memory is wanting
   pub complete : NoFault request old new → (status < 6) ⊎ (status ≡ 8)
+  -- what was read of a capture fits its types, where the run was done
+  pub fits : status < 2 → AllByRecursion RecordsFit (drop 2 readings)
   pub counts : CountsStay request old new
   pub files : FilesStay request old.contents new.contents
 
@@ -98,4 +101,4 @@ EndsUnder words (Some request) old new e f status = EndsWith request old new e f
 
 -- the words of a command line, the world and the errors before and after it, and its status
 abbrev pub Ends : List (List ℕ) → World → World → ErrorSink → ErrorSink → ℕ → Type 0
-Ends words old new e f status = EndsUnder words (asked words) old new e f status
+Ends words old new e f status = EndsUnder words (request_of words) old new e f status

@@ -29,6 +29,13 @@ OthersKeep save None new = ⊤
 OthersKeep save (Some old) None = ⊥
 OthersKeep save (Some old) (Some new) = (q : List ℕ) → ¬ Contains (option_to_list save) q → new q ≡ old q
 
+-- no count fell, and no file but the saved one was written
+pub record Works (save : Option (List ℕ)) (old new : World) : Type 0 where
+  pub faults : old.faults ≤ new.faults
+  pub later : (q : List ℕ) → old.writes q ≤ new.writes q
+  pub others : (q : List ℕ) → ¬ Contains (option_to_list save) q → new.writes q ≡ old.writes q
+  pub files : OthersKeep save old.contents new.contents
+
 -- no count fell; no file was read, and none but the saved one was written
 pub record Stays (save : Option (List ℕ)) (old new : World) : Type 0 where
   pub faults : old.faults ≤ new.faults

@@ -1,8 +1,9 @@
 -- What a command read of its files.
-use Rattle.std.specs.Prelude.{◌≡◌, ℕ, List, ◌++◌, Option, Some, None, ⊤}
+use Rattle.std.specs.Prelude.{ℕ, List, Option, ⊤}
 use Rattle.std.specs.List.{AllZip}
 use Rattle.epic_ports.specs.Faults.{Rose}
-use Rattle.epic_ports.specs.Files.{Files, bytes_at}
+use Rattle.epic_ports.specs.Files.{Files}
+pub use Rattle.epic_feed.specs.Files.{Holds, Begins}
 use Rattle.epic_app.specs.Acts.{World}
 
 pub data Reading : Type 0 where
@@ -12,16 +13,6 @@ pub data Reading : Type 0 where
   Failed : (front : List ℕ) → Reading
   -- the file was not looked at
   Unread : Reading
-
--- a file holds these bytes, where contents are told
-abbrev pub Holds : Option Files → List ℕ → List ℕ → Type 0
-Holds None name bytes = ⊤
-Holds (Some files) name bytes = files name ≡ Some bytes
-
--- a file begins with these bytes, where contents are told
-abbrev pub Begins : Option Files → List ℕ → List ℕ → Type 0
-Begins None name front = ⊤
-Begins (Some files) name front = (rest : List ℕ) × (bytes_at (Some files) name ≡ front ++ rest)
 
 -- this is a reading of a file of which so many reads had failed before, and have failed now
 abbrev pub IsReading : Option Files → List ℕ → ℕ → ℕ → Reading → Type 0

@@ -2,7 +2,7 @@
 use Rattle.std.specs.Prelude.{ℕ, ◌||◌, Bool, List, [], ◌++◌, length, flat_map}
 use Rattle.std.specs.List.{list_any}
 use Rattle.epic_num.specs.declared.answer.Answer.{Answer}
-use Rattle.epic_num.specs.declared.answer.Answer.TheVariants.{Passed, Carried}
+use Rattle.epic_num.specs.declared.answer.Answer.TheVariants.{Moment, Issued, Fetched, Known, Paths, Sent, Passed, Carried, Revealed, Rolled, Refused}
 use Rattle.epic_num.specs.declared.command.Command.{Command}
 use Rattle.epic_num.specs.declared.verdict.Verdict.{Verdict}
 use Rattle.epic_topo.specs.Network.{Network}
@@ -11,36 +11,47 @@ use Rattle.epic_model.specs.State.{State}
 use Rattle.epic_world.specs.Run.{Done}
 use Rattle.epic_text.specs.Counts.{counts_of, end_line, is_forged, is_collided}
 use Rattle.epic_text.specs.Report.{answer_text, bytes_in, emission_bytes, issued_name}
+use Rattle.epic_app.specs.Captures.{shown}
 
--- the lines of an answer, over what was issued and emitted by then
-unfoldable pub answered_text : Network → Command → Answer → State → List ℕ
-answered_text t command answer after =
+-- the lines of an answer under this number, over what was issued and emitted by then
+unfoldable pub answered_text : ℕ → Network → Command → Answer → State → List ℕ
+answered_text number t command answer after =
     answer_text t
     (issued_name (issues_in after.history.events))
     (emission_bytes after.history.emissions)
     (bytes_in (emission_bytes after.history.emissions) command)
-    after.steps
+    number
     answer
 
--- the lines of a step
-abbrev pub step_text : Network → Done → List ℕ
-step_text t d = answered_text t d.command d.answer d.after
+-- the lines of a step, where the script has so many
+abbrev pub step_text : ℕ → Network → Done → List ℕ
+step_text script t d = answered_text (shown script d.after.steps) t d.command d.answer d.after
 
 -- the verdicts of an answer, each on one acceptance
 unfoldable pub verdicts_in : Answer → List Verdict
+verdicts_in Moment = []
+verdicts_in (Issued number) = []
+verdicts_in Fetched = []
+verdicts_in Known = []
+verdicts_in (Paths paths) = []
+verdicts_in (Sent emission ts) = []
 verdicts_in (Passed pass) = pass.verdicts.items
 verdicts_in (Carried passes) = flat_map (λ pass. pass.verdicts.items) passes
-verdicts_in answer = []
+verdicts_in Revealed = []
+verdicts_in (Rolled generation) = []
+verdicts_in (Refused refusal) = []
 
 -- the verdicts of all steps
 unfoldable pub all_verdicts : List Done → List Verdict
 all_verdicts steps = flat_map (λ d. verdicts_in d.answer) steps
 
-unfoldable pub steps_text : Network → List Done → List ℕ
-steps_text t steps = flat_map (step_text t) steps
+unfoldable pub steps_text : ℕ → Network → List Done → List ℕ
+steps_text script t steps = flat_map (step_text script t) steps
 
-unfoldable pub run_text : Network → List Done → List ℕ
-run_text t steps = steps_text t steps ++ end_line (counts_of (length steps) (all_verdicts steps))
+-- the last line counts the two steps of a record as one
+unfoldable pub run_text : ℕ → Network → List Done → List ℕ
+run_text script t steps =
+    steps_text script t steps ++ end_line (counts_of (shown script (length steps)) (all_verdicts steps))
 
 -- a tag was forged, or two hops have one
 abbrev pub is_alarm : Verdict → Bool

@@ -5,9 +5,10 @@ ghost use Rattle.epic_ports.specs.Faults.{FailsOnlyBy};
 ghost use Rattle.epic_ports.specs.Written.{Appends, WritesBefore};
 ghost use Rattle.epic_text.specs.declared.script.ScriptKind.TheVariants.{BadWord};
 ghost use Rattle.epic_app.specs.End.{end_after, line_of, status_of};
-ghost use Rattle.epic_app.specs.FaultLines.{fault_line, named_line, topology_line};
+ghost use Rattle.epic_app.specs.FaultLines.{capture_line, fault_line, named_line, topology_line};
 ghost use Rattle.epic_app.specs.Outcome.{Tells, error_sink};
 
+use epic_feed::Damage;
 use epic_ports::{PortError, Sink, write_all};
 use epic_text::ScriptKind;
 use epic_topo::{TopoKey, TopoKind};
@@ -37,6 +38,8 @@ pub enum End<'a> {
     },
     /// The script is too long.
     LongScript,
+    /// The capture holds a damage.
+    BadCapture(Damage),
     /// A read of the file with this name failed.
     ReadFault(&'a str),
     /// A write failed.
@@ -54,6 +57,7 @@ impl End<'_> {
             End::BadWords => 2,
             End::BadTopology { .. } | End::LongTopology => 3,
             End::BadScript { .. } | End::LongScript => 4,
+            End::BadCapture(_) => 5,
             End::ReadFault(_) => 6,
             End::WriteFault => 7,
             End::OutOfMemory => 8,
@@ -175,6 +179,27 @@ fn write_topology_fault<E: Sink>(
     )
 }
 
+/// Writes the line of a capture's damage.
+fn write_damage<E: Sink>(err: &mut E, damage: Damage) -> Result<(), PortError>
+    ensures ok { OnOk result (Appends (E.written err.old) (E.written err.new)
+        (capture_line damage)) }
+    ensures err { OnErr result (WritesBefore (E.written err.old) (E.written err.new)
+        (capture_line damage)) }
+    ensures cause { FailsOnlyBy (E.faults err.old) (E.faults err.new) result }
+{
+    let mut number = Buffer::new();
+    write_pieces(
+        err,
+        &[
+            b"epic: capture ",
+            damage.word().as_bytes(),
+            b" ",
+            number.format(damage.offset()).as_bytes(),
+            b"\n",
+        ],
+    )
+}
+
 /// Writes the line of `end`, if it has one.
 fn write_end<E: Sink>(err: &mut E, end: &End<'_>) -> Result<(), PortError>
     ensures ok { OnOk result (Appends (E.written err.old) (E.written err.new) (line_of end.now)) }
@@ -189,6 +214,7 @@ fn write_end<E: Sink>(err: &mut E, end: &End<'_>) -> Result<(), PortError>
         End::BadTopology { kind, key, item } => write_topology_fault(err, *kind, *key, *item),
         End::LongTopology => write_all(err, b"epic: topology too-long text 0\n"),
         End::LongScript => write_all(err, b"epic: script too-long\n"),
+        End::BadCapture(damage) => write_damage(err, *damage),
         End::ReadFault(name) => write_pieces(err, &[b"epic: read ", name.as_bytes(), b"\n"]),
         End::WriteFault => write_all(err, b"epic: write\n"),
         End::OutOfMemory => write_all(err, b"epic: memory\n"),

@@ -3,21 +3,27 @@
 
 mod end;
 mod files;
+mod gen_report;
+mod generating;
 mod hop;
 mod hop_answer;
 mod hop_file;
 mod hop_report;
 mod laws;
 mod run;
+mod run_end;
 mod run_report;
 mod saving;
 mod spelling;
+mod taking;
 mod top;
 mod writing;
 
 pub use laws::saved_is_whole;
 pub use top::epic;
 
+#[cfg(test)]
+mod front_tests;
 #[cfg(test)]
 mod run_tests;
 #[cfg(test)]

@@ -1,13 +1,13 @@
 //! The command `run`: many actors over a topology, each acceptance with its verdict.
 
-ghost use Rattle.std.specs.Prelude.{◌≡◌, None};
 ghost use Rattle.epic_app.specs.Acts.{world};
 ghost use Rattle.epic_app.specs.End.{EndsAs};
-ghost use Rattle.epic_words.specs.Answers.{run_in};
+ghost use Rattle.epic_app.specs.RunEnding.{IsUnshared};
+ghost use Rattle.epic_words.specs.Answers.{names_in, run_in};
 
-use crate::end::{End, ended};
+use crate::end::End;
 use crate::files::{commands_in, topology_in};
-use crate::run_report::write_run;
+use crate::run_end::write_run;
 use epic_num::Command;
 use epic_ports::{Sink, Store};
 use epic_words::RunWords;
@@ -17,14 +17,15 @@ use std::alloc::Global;
 const SCRIPT_LIMIT: u64 = 16_777_216;
 
 /// Reads and checks the whole topology and then the whole script, and does the script's commands
-/// one after the other. What they emit is saved as a capture, if a file for it is named.
+/// one after the other, and then those of a capture's records, if one is named. What they emit is
+/// saved as a capture, if a file for it is named.
 pub fn run<'a, S: Store, O: Sink>(
     alloc: Global,
     words: &RunWords<'a>,
     store: &mut S,
     out: &mut O,
 ) -> End<'a>
-    requires { words.now.capture ≡ None }
+    requires { IsUnshared (names_in words.now) }
     ensures { EndsAs (run_in words.now)
         (world (S.contents store.old) (S.reads store.old) (S.writes store.old)
         (O.written out.old) (O.faults out.old))
@@ -40,5 +41,5 @@ pub fn run<'a, S: Store, O: Sink>(
         Ok(commands) => commands,
         Err(end) => return end,
     };
-    ended(write_run(alloc, topo, &commands, words.save, store, out))
+    write_run(alloc, topo, &commands, words, store, out)
 }

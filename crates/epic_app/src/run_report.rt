@@ -1,15 +1,17 @@
 //! The report of a run, step by step.
 
-ghost use Rattle.std.specs.Prelude.{◌≡◌, ◌+◌, ◌-◌, ◌^◌, ◌<◌, ◌≤◌, All, IfOk, OnOk, flat_map, length, nat_lt, option_map, ◌||◌};
+ghost use Rattle.std.specs.Prelude.{◌≡◌, ◌+◌, ◌-◌, ◌*◌, ◌^◌, ◌<◌, ◌≤◌, All, IfOk, OnOk, flat_map, length, nat_lt, option_map, ◌||◌};
 ghost use Rattle.epic_text.specs.Counts.{counts_of, end_line, total};
 ghost use Rattle.epic_text.specs.Report.{IsToldAnswer, bytes_in, emission_bytes};
+ghost use Rattle.epic_model.specs.State.{start};
 ghost use Rattle.epic_model.specs.Steps.{next};
-ghost use Rattle.epic_world.specs.Run.{done_by, run};
+ghost use Rattle.epic_world.specs.Run.{done_by, run, state_after};
 ghost use Rattle.epic_world.specs.Stepped.{IsPossible};
 ghost use Rattle.epic_app.specs.Acts as acts;
-ghost use Rattle.epic_app.specs.Doing.{run_acts, step_acts};
+ghost use Rattle.epic_app.specs.Captures.{shown};
+ghost use Rattle.epic_app.specs.Doing.{step_acts, steps_acts};
 ghost use Rattle.epic_app.specs.Performing.{Performs, Stays};
-ghost use Rattle.epic_app.specs.RunReport.{answered_text, has_alarm, verdicts_in};
+ghost use Rattle.epic_app.specs.RunReport.{all_verdicts, answered_text, verdicts_in};
 ghost use Rattle.epic_app.specs.StepLines.{count_all};
 ghost use Rattle.epic_app.specs.Writing.{Writes};
 
@@ -18,28 +20,38 @@ use crate::writing::write_text;
 use epic_num::{Answer, Command, OutOfMemory, Passed, Verdict};
 use epic_ports::{PortError, Sink, Store};
 use epic_text::{Counts, bytes_in, counted, print_answer, print_end};
-use epic_topo::Topology;
 use epic_world::{World, fits};
 use std::alloc::Global;
 
+/// The number that is shown for a step, where a script has so many: behind them the two steps of a
+/// record count as one.
+#[tactic(auto, unfolding(crate::specs::Captures::shown))]
+pub fn shown(script: u32, step: u32) -> u32
+    ensures { result ≡ shown script step }
+{
+    step.min(script) + step.saturating_sub(script) / 2
+}
+
 /// The lines of a step that was done, after which the world is this.
-fn step_lines(
+pub(crate) fn step_lines(
     alloc: Global,
     world: &World,
+    script: u32,
     command: &Command,
     answer: &Answer,
 ) -> Result<Vec<u8>, OutOfMemory>
     requires { IsToldAnswer world.now.network world.now.state.history
         (bytes_in (emission_bytes world.now.state.history.emissions) command.now) answer.now }
     ensures { IfOk result (λ text. text.items ≡
-        answered_text world.now.network command.now answer.now world.now.state) }
+        answered_text (shown script world.now.state.steps) world.now.network command.now answer.now
+        world.now.state) }
 {
     let ledger = world.ledger();
     let came = bytes_in(ledger, command);
     let mut text = Vec::new(alloc);
     print_answer(
         &mut text,
-        world.steps(),
+        shown(script, world.steps()),
         world.topology(),
         ledger,
         came,
@@ -76,7 +88,7 @@ fn count_passes(counts: Counts, passes: &[Passed]) -> Counts
 
 /// The counts with the verdicts of an answer.
 #[tactic(auto, unfolding(crate::specs::RunReport::verdicts_in, crate::specs::StepLines::count_all))]
-fn count(counts: Counts, answer: &Answer) -> Counts
+pub(crate) fn count(counts: Counts, answer: &Answer) -> Counts
     requires few { total counts + length (verdicts_in answer.now) < 2 ^ 64 - 1 }
     ensures value { result ≡ count_all counts (verdicts_in answer.now) }
     ensures total { total result ≡ total counts + length (verdicts_in answer.now) }
@@ -84,15 +96,24 @@ fn count(counts: Counts, answer: &Answer) -> Counts
     match answer {
         Answer::Passed(passed) => count_each(counts, passed.verdicts.as_slice()),
         Answer::Carried(passes) => count_passes(counts, passes.as_slice()),
-        _ => counts,
+        Answer::Moment
+        | Answer::Issued { .. }
+        | Answer::Fetched
+        | Answer::Known
+        | Answer::Paths(_)
+        | Answer::Sent { .. }
+        | Answer::Revealed
+        | Answer::Rolled { .. }
+        | Answer::Refused(_) => counts,
     }
 }
 
 /// Does a command, writes its lines, and then adds what it emitted to the saved file, if there is
-/// one.
-fn write_step<S: Store, O: Sink>(
+/// one. The script has so many commands.
+pub fn write_step<S: Store, O: Sink>(
     alloc: Global,
     world: &mut World,
+    script: u32,
     command: &Command,
     counts: Counts,
     save: Option<&str>,
@@ -109,7 +130,7 @@ fn write_step<S: Store, O: Sink>(
         count_all counts (verdicts_in (next world.old.network world.old.state command.now).answer)) }
     ensures total { IfOk result (λ c. total c ≤ total counts + 66) }
     ensures performs { Performs (option_map (λ name. name.now) save.entry)
-        (step_acts (option_map (λ name. name.now) save.entry) world.old.network
+        (step_acts (option_map (λ name. name.now) save.entry) script world.old.network
         (done_by world.old.network world.old.state command.now))
         (acts.world (S.contents store.old) (S.reads store.old) (S.writes store.old)
         (O.written out.old) (O.faults out.old))
@@ -129,7 +150,7 @@ fn write_step<S: Store, O: Sink>(
         Ok(answer) => answer,
         Err(OutOfMemory) => return Err(PortError::OutOfMemory),
     };
-    let text = match step_lines(alloc, world, command, &answer) {
+    let text = match step_lines(alloc, world, script, command, &answer) {
         Ok(text) => text,
         Err(OutOfMemory) => return Err(PortError::OutOfMemory),
     };
@@ -140,7 +161,7 @@ fn write_step<S: Store, O: Sink>(
 }
 
 /// Writes the last line.
-fn write_end<O: Sink>(alloc: Global, counts: &Counts, out: &mut O) -> Result<(), PortError>
+pub fn write_end<O: Sink>(alloc: Global, counts: &Counts, out: &mut O) -> Result<(), PortError>
     requires { total counts.now < 2 ^ 63 }
     ensures text { Writes (end_line counts.now)
         (O.written out.old) (O.written out.new) (O.faults out.old) (O.faults out.new) result }
@@ -154,35 +175,43 @@ fn write_end<O: Sink>(alloc: Global, counts: &Counts, out: &mut O) -> Result<(),
 }
 
 /// Whether some verdict is forged or collided.
-fn tells_alarm(counts: &Counts) -> bool
+pub fn tells_alarm(counts: &Counts) -> bool
     ensures { result ≡ (nat_lt 0 counts.now.forged || nat_lt 0 counts.now.collided) }
 {
     counts.forged > 0 || counts.collided > 0
 }
 
-/// Opens the saved file, if there is one, and does the commands one after the other over a
-/// topology. The lines of each are written, and what it emitted is saved, before the next is done.
+/// Opens the saved file, if there is one, and does the commands of a script one after the other in
+/// a new world; `script` says how many there are. The lines of each are written, and what it emitted is saved, before the next is done.
 ///
-/// Answers whether some verdict is forged or collided. `PortError::Failed` comes only where `out`
-/// or the saved file counted a failed write.
-pub fn write_run<S: Store, O: Sink>(
+/// Answers the counts of the verdicts. `PortError::Failed` comes only where `out` or the saved file
+/// counted a failed write.
+pub fn write_script<S: Store, O: Sink>(
     alloc: Global,
-    topo: Topology,
+    world: &mut World,
+    script: u32,
     commands: &[Command],
     save: Option<&str>,
     store: &mut S,
     out: &mut O,
-) -> Result<bool, PortError>
+) -> Result<Counts, PortError>
+    requires new { world.old.state ≡ start }
     requires possible { All IsPossible commands.now }
     requires few { length commands.now ≤ 524288 }
+    ensures network { world.new.network ≡ world.old.network }
+    ensures state { OnOk result (world.new.state ≡
+        state_after world.old.network start commands.now) }
+    ensures counts { IfOk result (λ c. c ≡
+        counts_of 0 (all_verdicts (run world.old.network commands.now))) }
+    ensures steps { OnOk result (world.new.state.steps ≡ length commands.now) }
+    ensures total { IfOk result (λ c. total c ≤ 66 * length commands.now) }
     ensures performs { Performs (option_map (λ name. name.now) save.entry)
-        (run_acts (option_map (λ name. name.now) save.entry) topo (run topo commands.now))
+        (steps_acts (option_map (λ name. name.now) save.entry) script world.old.network (run world.old.network commands.now))
         (acts.world (S.contents store.old) (S.reads store.old) (S.writes store.old)
         (O.written out.old) (O.faults out.old))
         (acts.world (S.contents store.new) (S.reads store.new) (S.writes store.new)
         (O.written out.new) (O.faults out.new))
         result }
-    ensures forged { IfOk result (λ forged. forged ≡ has_alarm (run topo commands.now)) }
     ensures stays { Stays (option_map (λ name. name.now) save.entry)
         (acts.world (S.contents store.old) (S.reads store.old) (S.writes store.old)
         (O.written out.old) (O.faults out.old))
@@ -190,15 +219,9 @@ pub fn write_run<S: Store, O: Sink>(
         (O.written out.new) (O.faults out.new)) }
 {
     open_saved(save, store)?;
-    let mut world = World::new(alloc, topo);
     let mut counts = Counts::default();
     for command in commands {
-        counts = write_step(alloc, &mut world, command, counts, save, store, out)?;
+        counts = write_step(alloc, world, script, command, counts, save, store, out)?;
     }
-    let counts = Counts {
-        steps: commands.len() as u32,
-        ..counts
-    };
-    write_end(alloc, &counts, out)?;
-    Ok(tells_alarm(&counts))
+    Ok(counts)
 }

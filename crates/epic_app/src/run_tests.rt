@@ -8,7 +8,7 @@ use std::test::Fail;
 
 // Six ASes in two isolation trees below core ASes that are linked. The expected reports were
 // computed by another program.
-const TOPOLOGY: &str =
+pub(crate) const TOPOLOGY: &str =
     "[[as]]\nname='1-ff00:0:110'\ncore=true\nkey='01010101010101010101010101010101'\n\
     [[as]]\nname='1-ff00:0:120'\ncore=true\nkey='02020202020202020202020202020202'\n\
     [[as]]\nname='1-ff00:0:111'\nkey='03030303030303030303030303030303'\n\
@@ -25,16 +25,16 @@ const SPARE: usize = 8192;
 
 /// The status of a run, the files after it, and what the output and the errors got.
 #[derive(Drop)]
-struct Run {
-    status: u8,
-    store: NamedStore,
-    out: MemSink,
-    err: MemSink,
+pub(crate) struct Run {
+    pub status: u8,
+    pub store: NamedStore,
+    pub out: MemSink,
+    pub err: MemSink,
 }
 
 /// Which calls fail.
 #[derive(Clone, Copy)]
-struct Faults<'a> {
+pub(crate) struct Faults<'a> {
     /// The first call that names this file, if any, or the first append to it.
     file: &'a str,
     appends: bool,
@@ -44,7 +44,7 @@ struct Faults<'a> {
     tell: u64,
 }
 
-const NO_FAULTS: Faults<'static> = Faults {
+pub(crate) const NO_FAULTS: Faults<'static> = Faults {
     file: "",
     appends: false,
     write: 0,
@@ -52,12 +52,24 @@ const NO_FAULTS: Faults<'static> = Faults {
 };
 
 /// `run t s`, with further words, over a store with these two files.
-fn run_files(
+pub(crate) fn run_files(
     rt: &impl Abort,
     alloc: Global,
     options: &[&str],
     topology: &[u8],
     script: &[u8],
+    faults: &Faults<'_>,
+) -> Result<Run, Fail> {
+    let files = [("t", topology), ("s", script)];
+    run_over(rt, alloc, options, &files, faults)
+}
+
+/// `run t s`, with further words, over a store with these files.
+fn run_over(
+    rt: &impl Abort,
+    alloc: Global,
+    options: &[&str],
+    held: &[(&str, &[u8])],
     faults: &Faults<'_>,
 ) -> Result<Run, Fail> {
     let mut given = Vec::new(alloc);
@@ -68,7 +80,7 @@ fn run_files(
         given.push(String::from_str(alloc, word)?)?;
     }
     let mut files = Vec::new(alloc);
-    for (name, text) in [("t", topology), ("s", script)] {
+    for (name, text) in held {
         files.push((
             String::from_str(alloc, name)?,
             Vec::from_slice(alloc, text)?,
@@ -430,6 +442,40 @@ fn runs_that_save(rt: HostRuntime) -> Result<(), Fail> {
         )?;
         let held = hex::encode(rt.alloc(), run.store.file("w").unwrap_or(&[]))?;
         assert_eq!(rt; held.as_str(), saved);
+        assert_eq!(rt; run.err.written(), err.as_bytes());
+        assert_eq!(rt; run.status, status);
+    }
+    Ok(())
+}
+
+// The lines of the packet that the capture holds, at the next router.
+const CAPTURED: &str =
+    "6 forward 1 2 e0000060000001020001ff00000001120001ff000000011000000001000000030000000000000000010300006553f1003f00010000f02fdcef5be861973095d23f000100025fc8567cf27d6859545a3e3f000000020000000000000000c11c94\n\
+    6 hop 1 proved 2\n";
+
+#[test]
+fn captures_come_behind_the_script(rt: HostRuntime) -> Result<(), Fail> {
+    let alloc = rt.alloc();
+    let fails = Faults {
+        file: "c",
+        ..NO_FAULTS
+    };
+    let end = "end 6 accepted 2 proved 2 opened 0 forged 0 collided 0 unclaimed 0\n";
+    let capture = hex::decode(alloc, WHOLE)?;
+    for (len, faults, status, lines, last, err) in [
+        (152, NO_FAULTS, 0, CAPTURED, end, ""),
+        (151, NO_FAULTS, 5, "", "", "epic: capture truncated 24\n"),
+        (152, fails, 6, "", "", "epic: read c\n"),
+    ] {
+        assert!(rt; len <= capture.len());
+        let files = [
+            ("t", TOPOLOGY.as_bytes()),
+            ("s", SENDING.as_bytes()),
+            ("c", &capture[..len]),
+        ];
+        let run = run_over(&rt, alloc, &["--capture", "c"], &files, &faults)?;
+        let lines = format!(in alloc; "{lines}{last}")?;
+        assert!(rt; run.out.written().ends_with(lines.as_bytes()));
         assert_eq!(rt; run.err.written(), err.as_bytes());
         assert_eq!(rt; run.status, status);
     }

@@ -7,9 +7,10 @@ ghost use Rattle.epic_app.specs.Claims.{ReportHolds};
 ghost use Rattle.epic_app.specs.End.{EndsFor};
 ghost use Rattle.epic_app.specs.Limits.{KeepsLimits};
 ghost use Rattle.epic_app.specs.Outcome.{Ends, error_sink};
-ghost use Rattle.epic_app.specs.Served.{asked};
+ghost use Rattle.epic_words.specs.Request.{request_of};
 
 use crate::end::{End, tell};
+use crate::generating::generate;
 use crate::hop::hop;
 use crate::run::run;
 use epic_ports::{Sink, Store};
@@ -25,7 +26,7 @@ fn perform<'a, S: Store, O: Sink>(
     store: &mut S,
     out: &mut O,
 ) -> End<'a>
-    ensures { EndsFor (map string_bytes words.entry.now) (asked (map string_bytes words.entry.now))
+    ensures { EndsFor (map string_bytes words.entry.now) (request_of (map string_bytes words.entry.now))
         (world (S.contents store.old) (S.reads store.old) (S.writes store.old)
         (O.written out.old) (O.faults out.old))
         (world (S.contents store.new) (S.reads store.new) (S.writes store.new)
@@ -34,13 +35,8 @@ fn perform<'a, S: Store, O: Sink>(
 {
     match asked_for(alloc, words) {
         Ok(Asked::Hop(words)) => hop(alloc, &words.key, words.file, store, out),
-        Ok(Asked::Run(words)) => {
-            // No capture is read yet.
-            if words.capture.is_some() {
-                return End::BadWords;
-            }
-            run(alloc, &words, store, out)
-        }
+        Ok(Asked::Run(words)) => run(alloc, &words, store, out),
+        Ok(Asked::Gen(words)) => generate(alloc, &words, out),
         Err(WordsError::Refused) => End::BadWords,
         Err(WordsError::OutOfMemory) => End::OutOfMemory,
     }
@@ -51,8 +47,8 @@ fn perform<'a, S: Store, O: Sink>(
 ///
 /// 0: the run was done, and no verdict is forged or collided, or no check of `hop` forged; 1: some
 /// is. 2: the words are no command. 3: the topology is refused. 4: the script, or the file of
-/// `hop`, is refused. 6: a read failed. 7: a write failed. 8: memory was wanting. The errors get
-/// the line of the status.
+/// `hop`, is refused. 5: the capture holds a damage; its records up to it were done. 6: a read
+/// failed. 7: a write failed. 8: memory was wanting. The errors get the line of the status.
 pub fn epic<S: Store, O: Sink, E: Sink>(
     alloc: Global,
     words: &[String],
@@ -60,8 +56,8 @@ pub fn epic<S: Store, O: Sink, E: Sink>(
     out: &mut O,
     err: &mut E,
 ) -> u8
-    // The report of `run` is that of the script's commands over the topology. Each step goes on
-    // from a state whose ledger is lawful and kept, in which no router accepted one packet twice
+    // The report of `run` is that of the script's commands and of the capture's records over the
+    // topology. Each step goes on from a state whose ledger is lawful and kept, in which no router accepted one packet twice
     // and segments are whole, and so does the end of the run. Each verdict of each passage is true
     // over the ledger before that passage, and Proved exactly where the provenance stands there;
     // honest packets are carried. A saved file is a capture of what was emitted. In the report of

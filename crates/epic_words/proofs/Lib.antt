@@ -1,2 +1,3 @@
 pub mod Laws
+mod Numbers
 pub mod Rows

@@ -1,9 +1,10 @@
 -- What the answers of the calls mean.
 use Rattle.std.specs.Prelude.{◌≡◌, Option, Some, None, Result, Ok, Err, ⊤}
 use Rattle.std.specs.Option.{option_map}
-use Rattle.epic_words.specs.Request.{Request, Hop, Run, RunRequest}
+use Rattle.epic_words.specs.Request.{Request, Hop, Run, Gen, RunRequest}
 use Rattle.epic_words.specs.declared.hop.HopWords.{HopWords}
 use Rattle.epic_words.specs.declared.run.RunWords.{RunWords}
+use Rattle.epic_words.specs.declared.generate.GenWords.{GenWords}
 use Rattle.epic_words.specs.declared.asked.Asked.{Asked}
 use Rattle.epic_words.specs.declared.asked.Asked.TheVariants as asked
 use Rattle.epic_words.specs.declared.error.WordsError.{WordsError}
@@ -26,10 +27,15 @@ names_in w = record {
 abbrev pub run_in : RunWords → Request
 run_in w = Run (names_in w)
 
+-- the request of the words of `gen`
+abbrev pub gen_in : GenWords → Request
+gen_in w = Gen w.seed w.packets
+
 -- the request of the words of a command
 abbrev pub request_in : Asked → Request
 request_in (asked.Hop w) = hop_in w
 request_in (asked.Run w) = run_in w
+request_in (asked.Gen w) = gen_in w
 
 -- the words ask for what was answered, or they are no command, or memory ran out
 abbrev pub AsksFor : {W : Type 0} → (W → Request) → Option Request → Result W WordsError → Type 0

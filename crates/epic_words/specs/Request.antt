@@ -6,6 +6,7 @@ use Rattle.std.specs.Option.{option_to_list}
 use Rattle.clap.specs.Words.{Row, first_of}
 use Rattle.hex.specs.Hex.{decode_sized}
 use Rattle.hex.specs.declared.error.FromHexError.{FromHexError}
+use Rattle.epic_num.specs.Names.{number_of, within}
 use Rattle.epic_words.specs.RunCommand.{is_refused, rows_in, run_command}
 
 -- the names of the files of `run`
@@ -22,6 +23,8 @@ pub data Request : Type 0 where
   Hop : (key name : List ℕ) → Request
   -- `run TOPOLOGY SCRIPT` with its options
   Run : (request : RunRequest) → Request
+  -- `gen SEED PACKETS`
+  Gen : (seed packets : ℕ) → Request
 
 -- ---- the files of a command
 
@@ -29,11 +32,13 @@ pub data Request : Type 0 where
 abbrev pub reads_of : Request → List (List ℕ)
 reads_of (Hop key name) = name ∷ []
 reads_of (Run r) = r.topology ∷ r.script ∷ option_to_list r.capture
+reads_of (Gen seed packets) = []
 
 -- and of those that are written
 abbrev pub writes_of : Request → List (List ℕ)
 writes_of (Hop key name) = []
 writes_of (Run r) = option_to_list r.save
+writes_of (Gen seed packets) = []
 
 -- a name that is written stands among those that are read, or twice among those that are written
 abbrev pub is_shared : List (List ℕ) → List (List ℕ) → Bool
@@ -80,12 +85,29 @@ run_of words =
     if is_refused run_command words then None
     else unless_shared (run_request (rows_in run_command words))
 
+-- the request of two numbers, where both are there
+abbrev pub gen_request : Option ℕ → Option ℕ → Option Request
+gen_request None packets = None
+gen_request (Some seed) None = None
+gen_request (Some seed) (Some packets) = Some (Gen seed packets)
+
+-- the decimal number that a word writes, where it is in these bounds
+unfoldable pub number_in : ℕ → ℕ → List ℕ → Option ℕ
+number_in least most word = within least most (number_of word)
+
+-- the words after `gen`: a decimal number of 64 bits, and one from 1 to 100,000
+unfoldable pub gen_of : List (List ℕ) → Option Request
+gen_of (seed ∷ packets ∷ []) =
+    gen_request (number_in 0 0xffff_ffff_ffff_ffff seed) (number_in 1 100000 packets)
+gen_of words = None
+
 -- what the words after the program's name ask for; none where they are no command
 unfoldable pub request_of : List (List ℕ) → Option Request
 request_of [] = None
 request_of (command ∷ words) =
     if bytes_eq command (codes "hop") then hop_of words
     else if bytes_eq command (codes "run") then run_of words
+    else if bytes_eq command (codes "gen") then gen_of words
     else None
 
 -- the first word is this one

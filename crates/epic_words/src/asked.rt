@@ -6,6 +6,7 @@ ghost use Rattle.epic_words.specs.Answers.{AsksFor, request_in};
 ghost use Rattle.epic_words.specs.Request.{is_command, request_of};
 
 use crate::error::WordsError;
+use crate::generate::{GenWords, gen_words};
 use crate::hop::{HopWords, hop_words};
 use crate::run::{RunWords, run_words};
 use std::alloc::Global;
@@ -17,6 +18,8 @@ pub enum Asked<'a> {
     Hop(HopWords<'a>),
     /// `run TOPOLOGY SCRIPT` with its options.
     Run(RunWords<'a>),
+    /// `gen SEED PACKETS`.
+    Gen(GenWords),
 }
 
 /// Reads the words after the program's name.
@@ -40,6 +43,10 @@ pub fn asked_for<'a>(alloc: Global, words: &'a [String]) -> Result<Asked<'a>, Wo
         "run" => match run_words(alloc, rest) {
             Ok(words) => Ok(Asked::Run(words)),
             Err(error) => Err(error),
+        },
+        "gen" => match gen_words(rest) {
+            Some(words) => Ok(Asked::Gen(words)),
+            None => Err(WordsError::Refused),
         },
         _ => Err(WordsError::Refused),
     }

@@ -4,6 +4,7 @@
 mod asked;
 mod command;
 mod error;
+mod generate;
 mod hop;
 mod run;
 #[cfg(test)]
@@ -11,5 +12,6 @@ mod tests;
 
 pub use asked::{Asked, asked_for};
 pub use error::WordsError;
+pub use generate::{GenWords, gen_words};
 pub use hop::{HopWords, hop_words};
 pub use run::{RunWords, run_words};

@@ -103,6 +103,20 @@ fn words_that_are_refused(rt: HostRuntime) -> Result<(), Fail> {
         "hop zz f",
         "hop 000102030405060708090a0b0c0d0e0f",
         "hop 000102030405060708090a0b0c0d0e0f f --save=d",
+        "gen",
+        "gen 7",
+        "gen 7 20 1",
+        "gen 18446744073709551616 1",
+        "gen 7 0",
+        "gen 7 100001",
+        "gen 07 1",
+        "gen 7 01",
+        "gen +7 1",
+        "gen 7 1 --save=d",
+        "gen -1 1",
+        "gen 7 0x10",
+        "gen 1-1 1",
+        "gen 7 000000000000000000000",
     ] {
         let words = split(alloc, line)?;
         assert!(rt;
@@ -122,5 +136,20 @@ fn words_of_hop(rt: HostRuntime) -> Result<(), Fail> {
         file: "f",
     };
     assert!(rt; asked_for(alloc, &words) == Ok(Asked::Hop(hop)));
+    Ok(())
+}
+
+#[test]
+fn words_of_gen(rt: HostRuntime) -> Result<(), Fail> {
+    let alloc = rt.alloc();
+    for (line, seed, packets) in [
+        ("gen 7 20", 7, 20),
+        ("gen 0 1", 0, 1),
+        ("gen 18446744073709551615 100000", u64::MAX, 100_000),
+    ] {
+        let words = split(alloc, line)?;
+        let asked = Asked::Gen(GenWords { seed, packets });
+        assert!(rt; asked_for(alloc, &words) == Ok(asked), "{line}");
+    }
     Ok(())
 }

@@ -7,7 +7,7 @@ use Rattle.epic_topo.specs.Network.{Network}
 use Rattle.epic_ledger.specs.History.{History}
 use Rattle.epic_model.specs.State.{State}
 use Rattle.epic_model.specs.Steps.{next}
-use Rattle.epic_app.specs.Acts.{world}
+use Rattle.epic_app.specs.Captures.{shown}
 use Rattle.epic_app.specs.RunReport.{answered_text, verdicts_in}
 use Rattle.epic_app.proofs.Acting.{performs_err, stays_both}
 use Rattle.epic_app.proofs.EmissionsGrow.{emissions_grow}
@@ -48,22 +48,22 @@ returns-in_err-write_text-clause-performs g c =
     let t = c.args.world.now.network in
     let s = c.args.world.now.state in
     let n = next t s c.args.command.now in
-    let text : c.deref.result.now ≡ answered_text t c.args.command.now n.answer n.state =
+    let text : c.deref.result.now ≡ answered_text (shown c.args.script n.state.steps) t c.args.command.now n.answer n.state =
     c.deref.ensures.value ∙ (rw (c.in-Ok.ensures.network, c.in-Ok.ensures.step.1, c.in-Ok.ensures.step.0) at c.in-Ok-step_lines.ensures) in
     let e = c.in_err-write_text.field-0.0 in
     performs_err _ _ _ _ _ e (search rules)
-    (lines_stopped (option_map (λ (name : _). name.now) c.args.save) t s c.args.command.now
+    (lines_stopped (option_map (λ (name : _). name.now) c.args.save) c.args.script t s c.args.command.now
     (g.S.Store.contents c.args.store.now) (g.S.Store.reads c.args.store.now) (g.S.Store.writes c.args.store.now)
     (g.O.Sink.written c.args.out.now) (g.O.Sink.written c.write_text.new.out)
     (g.O.Sink.faults c.args.out.now) (g.O.Sink.faults c.write_text.new.out)
-    c.deref.result.now (lines_are t s c.args.command.now _ text) e c.in_err-write_text.ensures.text)
+    c.deref.result.now (lines_are t s c.args.command.now c.args.script _ text) e c.in_err-write_text.ensures.text)
 
 pub returns-in_err-save_text-clause-performs : goal.returns-in_err-save_text-clause-performs
 returns-in_err-save_text-clause-performs g c =
     let t = c.args.world.now.network in
     let s = c.args.world.now.state in
     let n = next t s c.args.command.now in
-    let text : c.deref.result.now ≡ answered_text t c.args.command.now n.answer n.state =
+    let text : c.deref.result.now ≡ answered_text (shown c.args.script n.state.steps) t c.args.command.now n.answer n.state =
     c.deref.ensures.value ∙ (rw (c.in-Ok.ensures.network, c.in-Ok.ensures.step.1, c.in-Ok.ensures.step.0) at c.in-Ok-step_lines.ensures) in
     let written = g.O.Sink.written c.write_text.new.out in
     let faults = g.O.Sink.faults c.write_text.new.out in
@@ -74,10 +74,10 @@ returns-in_err-save_text-clause-performs g c =
     (c.ledger-2.ensures.history ∙ ap (λ (x : State). x.history) c.in-Ok.ensures.step.1) in
     let e = c.in_err-save_text.field-0.0 in
     performs_err _ _ _ _ _ e (search rules)
-    (step_performed (option_map (λ (name : _). name.now) c.args.save) t s c.args.command.now
+    (step_performed (option_map (λ (name : _). name.now) c.args.save) c.args.script t s c.args.command.now
     (g.S.Store.contents c.args.store.now) (g.S.Store.reads c.args.store.now) (g.S.Store.writes c.args.store.now)
     (g.O.Sink.written c.args.out.now) written (g.O.Sink.faults c.args.out.now) faults
-    c.deref.result.now (lines_are t s c.args.command.now _ text)
+    c.deref.result.now (lines_are t s c.args.command.now c.args.script _ text)
     {X = ℕ} c.deref-2.result.now _ (Err e) records c.in_ok-write_text.ensures.text c.write_text.ensures.later
     (c.in_err-save_text.ensures.performs written faults))
 
@@ -109,7 +109,7 @@ returns-clause-performs g c =
     let t = c.args.world.now.network in
     let s = c.args.world.now.state in
     let n = next t s c.args.command.now in
-    let text : c.deref.result.now ≡ answered_text t c.args.command.now n.answer n.state =
+    let text : c.deref.result.now ≡ answered_text (shown c.args.script n.state.steps) t c.args.command.now n.answer n.state =
     c.deref.ensures.value ∙ (rw (c.in-Ok.ensures.network, c.in-Ok.ensures.step.1, c.in-Ok.ensures.step.0) at c.in-Ok-step_lines.ensures) in
     let written = g.O.Sink.written c.write_text.new.out in
     let faults = g.O.Sink.faults c.write_text.new.out in
@@ -118,10 +118,10 @@ returns-clause-performs g c =
     (c.emissions-before.ensures ∙ ap (λ (h : History). length h.emissions) c.ledger.ensures.history)
     (c.now.ensures.value ∙ ap (λ (x : State). x.moment) c.in-Ok.ensures.step.1)
     (c.ledger-2.ensures.history ∙ ap (λ (x : State). x.history) c.in-Ok.ensures.step.1) in
-    step_performed (option_map (λ (name : _). name.now) c.args.save) t s c.args.command.now
+    step_performed (option_map (λ (name : _). name.now) c.args.save) c.args.script t s c.args.command.now
     (g.S.Store.contents c.args.store.now) (g.S.Store.reads c.args.store.now) (g.S.Store.writes c.args.store.now)
     (g.O.Sink.written c.args.out.now) written (g.O.Sink.faults c.args.out.now) faults
-    c.deref.result.now (lines_are t s c.args.command.now _ text)
+    c.deref.result.now (lines_are t s c.args.command.now c.args.script _ text)
     {X = ℕ} c.deref-2.result.now _ (Ok 0) records c.in_ok-write_text.ensures.text c.write_text.ensures.later
     (c.in_ok-save_text.ensures.performs written faults)
 

@@ -8,7 +8,7 @@ use Rattle.epic_app.specs.Acts.{Does, world}
 use Rattle.epic_app.specs.Doing.{step_acts}
 use Rattle.epic_app.specs.Performing.{Stays}
 use Rattle.epic_app.specs.RunReport.{all_verdicts}
-use Rattle.epic_app.proofs.run_report.write_run.Given as goal
+use Rattle.epic_app.proofs.run_report.write_script.Given as goal
 
 -- the commands so far were done, with their acts since the capture was opened, and their verdicts counted
 abbrev pub invariant-loop-command : goal.invariant-loop-command
@@ -16,10 +16,10 @@ invariant-loop-command g l =
     let save = option_map (λ (name : _). name.now) l.save in
     let before = world (g.S.Store.contents l.initial.store) (g.S.Store.reads l.initial.store) (g.S.Store.writes l.initial.store) (g.O.Sink.written l.initial.out) (g.O.Sink.faults l.initial.out) in
     let now = world (g.S.Store.contents l.store) (g.S.Store.reads l.store) (g.S.Store.writes l.store) (g.O.Sink.written l.out) (g.O.Sink.faults l.out) in
-    (l.world.network ≡ l.fn.topo)
-    × (l.world.state ≡ state_after l.fn.topo start (take l.command-index l.commands))
-    × Does (flat_map (step_acts save l.fn.topo) (run_from l.fn.topo start (take l.command-index l.commands))) before now
+    (l.world.network ≡ l.fn.world.network)
+    × (l.world.state ≡ state_after l.fn.world.network start (take l.command-index l.commands))
+    × Does (flat_map (step_acts save l.script l.fn.world.network) (run_from l.fn.world.network start (take l.command-index l.commands))) before now
     × Stays save before now
-    × (l.counts ≡ counts_of 0 (all_verdicts (run_from l.fn.topo start (take l.command-index l.commands))))
+    × (l.counts ≡ counts_of 0 (all_verdicts (run_from l.fn.world.network start (take l.command-index l.commands))))
     × (l.world.state.steps ≡ l.command-index)
     × (total l.counts ≤ 66 * l.command-index)

@@ -1,28 +1,29 @@
-use Rattle.std.proofs.Common.{rules, ℕ, ◌+◌, ◌<◌, ◌≤◌, length, take, get_or, Ok, Err, ap, sym, ◌∙◌, arith}
+use Rattle.std.proofs.Common.{rules, ◌+◌, ◌<◌, ◌≤◌, length, take, get_or, refl, ap, sym, ◌∙◌, take_all, arith}
 use Rattle.std.specs.Option.{option_map}
-use Rattle.epic_text.specs.Counts.{counts_of, end_line}
+use Rattle.epic_text.specs.Counts.{counts_of}
 use Rattle.epic_model.specs.State.{start}
 use Rattle.epic_model.specs.Steps.{next}
-use Rattle.epic_world.specs.Run.{run_from, state_after}
+use Rattle.epic_world.specs.Run.{run, run_from, state_after}
 use Rattle.epic_world.proofs.Counted.{next_counts}
 use Rattle.epic_app.specs.Acts.{world}
 use Rattle.epic_app.specs.RunReport.{all_verdicts, verdicts_in}
 use Rattle.epic_app.specs.StepLines.{count_all}
-use Rattle.epic_app.proofs.Acting.{performs_err, prints_performed, stays_both}
-use Rattle.epic_app.proofs.RunLemmas.{next_state, next_verdicts, run_alarms, count_all-counts}
-use Rattle.epic_app.proofs.RunWriting.{all_stay, end_performed, next_done, opening_stopped, step_stopped}
-use Rattle.epic_app.proofs.StepWriting.{keeps_all, nothing_done, stays_same, stays_written}
-use Rattle.epic_app.proofs.run_report.write_run.Goals as goal
+use Rattle.epic_app.proofs.Acting.{performs_err, stays_both}
+use Rattle.epic_app.proofs.RunLemmas.{next_state, next_verdicts, count_all-counts}
+use Rattle.epic_app.proofs.RunWriting.{all_done, next_done, opening_stopped, step_stopped}
+use Rattle.epic_app.proofs.StepWriting.{nothing_done, stays_same}
+use Rattle.epic_app.proofs.run_report.write_script.Goals as goal
 
 pub loop-command-init : goal.loop-command-init
 unfolding state_after run_from all_verdicts
 loop-command-init g c =
-    (c.new-world.ensures.network, c.new-world.ensures.state, nothing_done _, stays_same _ _, search rules, ap (λ (s : _). s.steps) c.new-world.ensures.state, search rules)
+    (refl, c.requires.new, nothing_done _, stays_same _ _, search rules, ap (λ (s : _). s.steps) c.requires.new, search rules)
 
 pub loop-command-preserved : goal.loop-command-preserved
 loop-command-preserved g c =
     let save = option_map (λ (name : _). name.now) c.args.save in
-    let t = c.args.topo in
+    let t = c.args.world.now.network in
+    let script = c.args.script in
     let cs = c.args.commands.now in
     let i = c.loop-command.command-index in
     let d = c.command-item.result in
@@ -33,12 +34,12 @@ loop-command-preserved g c =
     let w = world (g.S.Store.contents c.loop-command.store) (g.S.Store.reads c.loop-command.store) (g.S.Store.writes c.loop-command.store) (g.O.Sink.written c.loop-command.out) (g.O.Sink.faults c.loop-command.out) in
     let x = world (g.S.Store.contents c.write_step.new.store) (g.S.Store.reads c.write_step.new.store) (g.S.Store.writes c.write_step.new.store) (g.O.Sink.written c.write_step.new.out) (g.O.Sink.faults c.write_step.new.out) in (
       c.in_ok-counts.ensures.network ∙ network,
-      c.in_ok-counts.ensures.state ∙ ((λ k. (next (network k) (state k) (is k)).state) ∙ sym (next_state save t cs i d within)),
-      next_done save t cs i c.loop-command.world.network c.loop-command.world.state d d v w x within network state is done c.in_ok-counts.ensures.performs,
+      c.in_ok-counts.ensures.state ∙ ((λ k. (next (network k) (state k) (is k)).state) ∙ sym (next_state save script t cs i d within)),
+      next_done save script t cs i c.loop-command.world.network c.loop-command.world.state d d v w x within network state is done c.in_ok-counts.ensures.performs,
       stays_both save v w x stays c.write_step.ensures.stays,
       c.in_ok-counts.ensures.counts
           ∙ ((λ k. count_all (counts k) (verdicts_in (next (network k) (state k) (is k)).answer))
-          ∙ (count_all-counts 0 (all_verdicts (run_from t start (take i cs))) (verdicts_in (next t (state_after t start (take i cs)) (get_or cs i d)).answer) ∙ ap (counts_of 0) (sym (next_verdicts save t cs i d within)))),
+          ∙ (count_all-counts 0 (all_verdicts (run_from t start (take i cs))) (verdicts_in (next t (state_after t start (take i cs)) (get_or cs i d)).answer) ∙ ap (counts_of 0) (sym (next_verdicts save script t cs i d within)))),
       ap (λ (s : _). s.steps) c.in_ok-counts.ensures.state ∙ (next_counts c.loop-command.world.network c.loop-command.world.state d ∙ ap (λ n. n + 1) steps),
       omega (arith, c.in_ok-counts.ensures.total, few),
     )
@@ -47,7 +48,7 @@ pub returns-in_err-open_saved-clause-performs : goal.returns-in_err-open_saved-c
 returns-in_err-open_saved-clause-performs g c =
     let e = c.in_err-open_saved.field-0.0 in
     performs_err _ _ _ _ _ e (search rules)
-    (opening_stopped (option_map (λ (name : _). name.now) c.args.save) c.args.topo c.args.commands.now _ _ e
+    (opening_stopped (option_map (λ (name : _). name.now) c.args.save) c.args.script c.args.world.now.network c.args.commands.now _ _ e
     (c.in_err-open_saved.ensures.performs (g.O.Sink.written c.args.out.now) (g.O.Sink.faults c.args.out.now)))
 
 pub returns-in_err-open_saved-clause-stays : goal.returns-in_err-open_saved-clause-stays
@@ -57,7 +58,8 @@ returns-in_err-open_saved-clause-stays g c =
 pub returns-in_err-counts-clause-performs : goal.returns-in_err-counts-clause-performs
 returns-in_err-counts-clause-performs g c =
     let save = option_map (λ (name : _). name.now) c.args.save in
-    let t = c.args.topo in
+    let t = c.args.world.now.network in
+    let script = c.args.script in
     let cs = c.args.commands.now in
     let i = c.loop-command.command-index in
     let d = c.command-item.result in
@@ -71,7 +73,7 @@ returns-in_err-counts-clause-performs g c =
     let first = c.open_saved.ensures.stays (g.O.Sink.written c.args.out.now) (g.O.Sink.faults c.args.out.now) in
     let e = c.in_err-counts.field-0.0 in
     performs_err _ _ _ _ _ e (search (rules, c.from_residual-in_err-counts, c.in_err-counts))
-    (step_stopped save t cs i u v w x opened first done stays c.loop-command.world.network c.loop-command.world.state d d e within network state c.command-item.is c.in_err-counts.ensures.performs)
+    (step_stopped save script t cs i u v w x opened first done stays c.loop-command.world.network c.loop-command.world.state d d e within network state c.command-item.is c.in_err-counts.ensures.performs)
 
 pub returns-in_err-counts-clause-stays : goal.returns-in_err-counts-clause-stays
 returns-in_err-counts-clause-stays g c =
@@ -80,38 +82,9 @@ returns-in_err-counts-clause-stays g c =
     let first = c.open_saved.ensures.stays (g.O.Sink.written c.args.out.now) (g.O.Sink.faults c.args.out.now) in
     stays_both save _ _ _ (stays_both save _ _ _ first stays) c.write_step.ensures.stays
 
-pub returns-in_err-write_end-clause-performs : goal.returns-in_err-write_end-clause-performs
-returns-in_err-write_end-clause-performs g c =
-    let save = option_map (λ (name : _). name.now) c.args.save in
-    let t = c.args.topo in
-    let cs = c.args.commands.now in
-    let i = c.loop-command.command-index in
-    let past : length cs ≤ i = omega arith in
-    let (network, state, done, stays, counts, steps, few) = c.loop-command.invariant in
-    let u = world (g.S.Store.contents c.args.store.now) (g.S.Store.reads c.args.store.now) (g.S.Store.writes c.args.store.now) (g.O.Sink.written c.args.out.now) (g.O.Sink.faults c.args.out.now) in
-    let v = world (g.S.Store.contents c.open_saved.new.store) (g.S.Store.reads c.open_saved.new.store) (g.S.Store.writes c.open_saved.new.store) (g.O.Sink.written c.args.out.now) (g.O.Sink.faults c.args.out.now) in
-    let w = world (g.S.Store.contents c.loop-command.store) (g.S.Store.reads c.loop-command.store) (g.S.Store.writes c.loop-command.store) (g.O.Sink.written c.loop-command.out) (g.O.Sink.faults c.loop-command.out) in
-    let x = world (g.S.Store.contents c.loop-command.store) (g.S.Store.reads c.loop-command.store) (g.S.Store.writes c.loop-command.store) (g.O.Sink.written c.write_end.new.out) (g.O.Sink.faults c.write_end.new.out) in
-    let opened = c.in_ok-open_saved.ensures.performs (g.O.Sink.written c.args.out.now) (g.O.Sink.faults c.args.out.now) in
-    let first = c.open_saved.ensures.stays (g.O.Sink.written c.args.out.now) (g.O.Sink.faults c.args.out.now) in
-    let e = c.in_err-write_end.field-0.0 in
-    performs_err _ _ _ _ _ e (search (rules, c.from_residual-in_err-write_end, c.in_err-write_end))
-    (end_performed save t cs i u v w x opened first done stays {X = ℕ} c.loop-command.counts (Err e) past counts
-    (prints_performed {X = ℕ} save (end_line (record c.loop-command.counts { steps = length cs })) w x (Err e) (keeps_all (g.S.Store.contents c.loop-command.store)) c.in_err-write_end.ensures.text))
-
-pub returns-in_err-write_end-clause-stays : goal.returns-in_err-write_end-clause-stays
-returns-in_err-write_end-clause-stays g c =
-    let save = option_map (λ (name : _). name.now) c.args.save in
-    let (network, state, done, stays, counts, steps, few) = c.loop-command.invariant in
-    let first = c.open_saved.ensures.stays (g.O.Sink.written c.args.out.now) (g.O.Sink.faults c.args.out.now) in
-    stays_both save _ _ _ (stays_both save _ _ _ first stays)
-    (stays_written save (g.S.Store.contents c.loop-command.store) (g.S.Store.reads c.loop-command.store) (g.S.Store.writes c.loop-command.store)
-    (g.O.Sink.written c.loop-command.out) (g.O.Sink.written c.write_end.new.out) _ _ c.write_end.ensures.later)
-
 pub returns-clause-performs : goal.returns-clause-performs
 returns-clause-performs g c =
     let save = option_map (λ (name : _). name.now) c.args.save in
-    let t = c.args.topo in
     let cs = c.args.commands.now in
     let i = c.loop-command.command-index in
     let past : length cs ≤ i = omega arith in
@@ -119,23 +92,28 @@ returns-clause-performs g c =
     let u = world (g.S.Store.contents c.args.store.now) (g.S.Store.reads c.args.store.now) (g.S.Store.writes c.args.store.now) (g.O.Sink.written c.args.out.now) (g.O.Sink.faults c.args.out.now) in
     let v = world (g.S.Store.contents c.open_saved.new.store) (g.S.Store.reads c.open_saved.new.store) (g.S.Store.writes c.open_saved.new.store) (g.O.Sink.written c.args.out.now) (g.O.Sink.faults c.args.out.now) in
     let w = world (g.S.Store.contents c.loop-command.store) (g.S.Store.reads c.loop-command.store) (g.S.Store.writes c.loop-command.store) (g.O.Sink.written c.loop-command.out) (g.O.Sink.faults c.loop-command.out) in
-    let x = world (g.S.Store.contents c.loop-command.store) (g.S.Store.reads c.loop-command.store) (g.S.Store.writes c.loop-command.store) (g.O.Sink.written c.write_end.new.out) (g.O.Sink.faults c.write_end.new.out) in
     let opened = c.in_ok-open_saved.ensures.performs (g.O.Sink.written c.args.out.now) (g.O.Sink.faults c.args.out.now) in
     let first = c.open_saved.ensures.stays (g.O.Sink.written c.args.out.now) (g.O.Sink.faults c.args.out.now) in
-    end_performed save t cs i u v w x opened first done stays {X = ℕ} c.loop-command.counts (Ok 0) past counts
-    (prints_performed {X = ℕ} save (end_line (record c.loop-command.counts { steps = length cs })) w x (Ok 0) (keeps_all (g.S.Store.contents c.loop-command.store)) c.in_ok-write_end.ensures.text)
+    all_done save c.args.script c.args.world.now.network cs i u v w w opened first done stays past
 
-pub returns-clause-forged : goal.returns-clause-forged
-returns-clause-forged g c =
-    let past : length c.args.commands.now ≤ c.loop-command.command-index = omega arith in
+pub returns-clause-state : goal.returns-clause-state
+returns-clause-state g c =
+    let cs = c.args.commands.now in
+    let past : length cs ≤ c.loop-command.command-index = omega arith in
     let (network, state, done, stays, counts, steps, few) = c.loop-command.invariant in
-    c.tells_alarm.ensures ∙ run_alarms c.args.topo c.args.commands.now c.loop-command.command-index c.loop-command.counts past counts
+    state ∙ ap (state_after c.args.world.now.network start) (take_all c.loop-command.command-index cs past)
+
+pub returns-clause-counts : goal.returns-clause-counts
+unfolding run
+returns-clause-counts g c =
+    let cs = c.args.commands.now in
+    let past : length cs ≤ c.loop-command.command-index = omega arith in
+    let (network, state, done, stays, counts, steps, few) = c.loop-command.invariant in
+    counts ∙ ap (λ xs. counts_of 0 (all_verdicts (run_from c.args.world.now.network start xs))) (take_all c.loop-command.command-index cs past)
 
 pub returns-clause-stays : goal.returns-clause-stays
 returns-clause-stays g c =
     let save = option_map (λ (name : _). name.now) c.args.save in
     let (network, state, done, stays, counts, steps, few) = c.loop-command.invariant in
     let first = c.open_saved.ensures.stays (g.O.Sink.written c.args.out.now) (g.O.Sink.faults c.args.out.now) in
-    stays_both save _ _ _ (stays_both save _ _ _ first stays)
-    (stays_written save (g.S.Store.contents c.loop-command.store) (g.S.Store.reads c.loop-command.store) (g.S.Store.writes c.loop-command.store)
-    (g.O.Sink.written c.loop-command.out) (g.O.Sink.written c.write_end.new.out) _ _ c.write_end.ensures.later)
+    stays_both save _ _ _ first stays

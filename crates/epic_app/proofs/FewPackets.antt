@@ -1,0 +1,64 @@
+-- The words ask for a limited number of packets.
+use Rattle.std.proofs.Common.{◌≡◌, ℕ, ◌≤◌, cond, List, [], ◌∷◌, Option, Some, None, Result, Ok, Err, refl, arith}
+use Rattle.std.specs.Prelude.{codes, bytes_eq, ⊤}
+use Rattle.std.proofs.lemmas.Bool.{cond_both}
+use Rattle.std.proofs.lemmas.Bool.Decides.{nat_tests}
+use Rattle.std.proofs.lemmas.Grind.{common_steps}
+use Rattle.hex.specs.Hex.{decode_sized}
+use Rattle.hex.specs.declared.error.FromHexError.{FromHexError}
+use Rattle.epic_num.specs.Names.{number_of, within}
+use Rattle.epic_words.specs.Request.{Request, Hop, Run, Gen, gen_of, gen_request, hop_of, hop_request, number_in, request_of, run_of, run_request, shares_files, unless_shared}
+use Rattle.epic_words.specs.RunCommand.{is_refused, rows_in, run_command}
+
+-- at most so many packets, where it is `gen` that is asked for
+abbrev pub HasFew : Option Request → Type 0
+HasFew None = ⊤
+HasFew (Some (Hop key name)) = ⊤
+HasFew (Some (Run r)) = ⊤
+HasFew (Some (Gen seed packets)) = packets ≤ 100000
+
+few_hop : (name : List ℕ) (key : Result (List ℕ) FromHexError) → HasFew (hop_request name key)
+few_hop name (Ok key) = tt
+few_hop name (Err error) = tt
+
+few_hops : (words : List (List ℕ)) → HasFew (hop_of words)
+unfolding hop_of
+few_hops [] = tt
+few_hops (key ∷ []) = tt
+few_hops (key ∷ name ∷ []) = few_hop name (decode_sized key 16)
+few_hops (key ∷ name ∷ word ∷ words) = tt
+
+few_runs : (words : List (List ℕ)) → HasFew (run_of words)
+unfolding run_of
+few_runs words =
+    let r = run_request (rows_in run_command words) in
+    cond_both (is_refused run_command words) None (unless_shared r) HasFew (λ e. tt)
+    (λ e. cond_both (shares_files (Run r)) None (Some (Run r)) HasFew (λ f. tt) (λ f. tt))
+
+within_few : (o : Option ℕ) (n : ℕ) → within 1 100000 o ≡ Some n → n ≤ 100000
+within_few None n is = absurd (cc)
+within_few (Some m) n is = grind (arith, nat_tests, common_steps)
+
+few_gen : (seed packets : Option ℕ) → ((n : ℕ) → packets ≡ Some n → n ≤ 100000) → HasFew (gen_request seed packets)
+few_gen None packets few = tt
+few_gen (Some seed) None few = tt
+few_gen (Some seed) (Some packets) few = few packets refl
+
+few_gens : (words : List (List ℕ)) → HasFew (gen_of words)
+unfolding gen_of number_in
+few_gens [] = tt
+few_gens (seed ∷ []) = tt
+few_gens (seed ∷ packets ∷ []) =
+    few_gen (number_in 0 0xffff_ffff_ffff_ffff seed) (number_in 1 100000 packets) (λ n is. within_few (number_of packets) n is)
+few_gens (seed ∷ packets ∷ word ∷ words) = tt
+
+pub few_requests : (words : List (List ℕ)) → HasFew (request_of words)
+unfolding request_of
+few_requests [] = tt
+few_requests (command ∷ words) =
+    cond_both (bytes_eq command (codes "hop")) (hop_of words)
+    (cond (bytes_eq command (codes "run")) (run_of words) (cond (bytes_eq command (codes "gen")) (gen_of words) None)) HasFew
+    (λ e. few_hops words)
+    (λ e. cond_both (bytes_eq command (codes "run")) (run_of words) (cond (bytes_eq command (codes "gen")) (gen_of words) None) HasFew
+    (λ f. few_runs words)
+    (λ f. cond_both (bytes_eq command (codes "gen")) (gen_of words) None HasFew (λ g. few_gens words) (λ g. tt)))

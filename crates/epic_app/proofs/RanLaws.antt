@@ -1,0 +1,324 @@
+-- Commands that a run does one after the other behind its script.
+use Rattle.std.proofs.Common.{◌≡◌, ℕ, ◌+◌, ◌-◌, ◌*◌, ◌/◌, ◌^◌, ◌≤◌, min, Result, Ok, Err, OnOk, List, [], ◌∷◌, ◌++◌, length, flat_map, Option, Some, None, Contains, refl, sym, ap, subst, ◌∙◌, append-nil, append_assoc, length-append, arith}
+use Rattle.std.specs.Prelude.{IfErr}
+use Rattle.std.specs.Option.{option_map, option_to_list}
+use Rattle.std.proofs.lemmas.List.Concat.{flat_map-append}
+use Rattle.std.proofs.lemmas.List.Elements.{All-append, All-cons, All-nil}
+use Rattle.epic_world.proofs.Counted.{next_counts}
+use Rattle.epic_num.specs.declared.command.Command.{Command}
+use Rattle.epic_num.specs.declared.verdict.Verdict.{Verdict}
+use Rattle.epic_capture.specs.Records.{Captured}
+use Rattle.epic_feed.specs.Files.{SameFile}
+use Rattle.epic_feed.specs.Taking.{Takes}
+use Rattle.epic_ports.specs.Files.{Files, KeepsFiles}
+use Rattle.epic_ports.specs.declared.error.PortError.{PortError}
+use Rattle.epic_ports.specs.declared.error.PortError.TheVariants.{OutOfMemory}
+use Rattle.epic_text.specs.declared.counts.Counts.{Counts}
+use Rattle.epic_text.specs.Counts.{counted, total}
+use Rattle.epic_model.specs.State.{State}
+use Rattle.epic_model.specs.Steps.{next}
+use Rattle.epic_model.specs.World.{Fits}
+use Rattle.epic_world.specs.Run.{Done, done_by, run_from, state_after}
+use Rattle.epic_app.specs.declared.taking.Records.{Records}
+use Rattle.epic_app.specs.declared.end.End.{End}
+use Rattle.epic_app.specs.declared.end.End.TheVariants.{BadWords, BadTopology, LongTopology, BadScript, LongScript, BadCapture, ReadFault, WriteFault}
+use Rattle.epic_app.specs.declared.end.End.TheVariants as ends
+use Rattle.epic_ports.proofs.Appended.{Appends-none}
+use Rattle.epic_app.specs.Acts.{Act, World, Does, StopsAt, StopsBefore, world}
+use Rattle.epic_num.specs.declared.command.Command.TheVariants.{At}
+use Rattle.epic_app.specs.Captures.{due, records_commands, record_commands}
+use Rattle.epic_app.specs.Doing.{Progress, step_acts}
+use Rattle.epic_app.specs.End.{Decided, HasCause}
+use Rattle.epic_app.specs.Performing.{Blamed, OthersKeep, Stays, Stopped, Works}
+use Rattle.epic_app.specs.RunReport.{all_verdicts, verdicts_in}
+use Rattle.epic_app.specs.StepLines.{count_all}
+use Rattle.epic_app.specs.Taking.{Ran, StopsIn, acts_of, saved_by}
+use Rattle.epic_app.proofs.ActFiles.{does_both, does_nothing}
+use Rattle.epic_app.proofs.Acting.{blamed_in, fails_in, others_both, others_kept, stopped_later, stopped_more}
+use Rattle.epic_app.proofs.RunLemmas.{run_from-append, state_after-append}
+use Rattle.epic_app.proofs.StepWriting.{keeps_all, nothing_done}
+
+-- ---- what stays
+
+pub works_of : (save : Option (List ℕ)) (old new : World) → Stays save old new → Works save old new
+works_of save old new stays = record { faults = stays.faults; later = stays.later; others = stays.others; files = stays.files }
+
+pub works_both : (save : Option (List ℕ)) (u v w : World) → Works save u v → Works save v w → Works save u w
+works_both save u v w first next = record {
+  faults = omega (arith, first.faults, next.faults);
+  later = λ q. omega (arith, first.later q, next.later q);
+  others = λ q absent. next.others q absent ∙ first.others q absent;
+  files = others_both save u.contents v.contents w.contents first.files next.files;
+}
+
+-- files that are read change nothing of that
+pub works_read : (save : Option (List ℕ)) (old new : World) → KeepsFiles old.contents new.contents → old.faults ≤ new.faults → new.writes ≡ old.writes
+    → Works save old new
+works_read save old new keeps later writes = record {
+  faults = later;
+  later = λ q. omega (arith, ap (λ (counts : List ℕ → ℕ). counts q) writes);
+  others = λ q absent. ap (λ (counts : List ℕ → ℕ). counts q) writes;
+  files = others_kept save old.contents new.contents keeps;
+}
+
+-- a count that rose later rose over the whole
+pub blamed_later : (save : Option (List ℕ)) (u v w : World) → Works save u v → Blamed save v w → Blamed save u w
+blamed_later save u v w works blamed = blamed_in save u v w (works.faults, works.later) blamed
+
+-- ---- causes
+
+-- some acts were done, and then others, of which an act failed
+stops_behind : (a b : List Act) (save : Option (List ℕ)) (u v w : World) → Does a u v → Works save u v → StopsAt b v w → StopsAt (a ++ b) u w
+stops_behind a b save u v w first works stops = record {
+  before = a ++ stops.before;
+  act = stops.act;
+  after = stops.after;
+  order = ap (λ acts. a ++ acts) stops.order ∙ sym (append_assoc a stops.before (stops.act ∷ stops.after));
+  done = does_both a stops.before u v w first stops.done;
+  fails = fails_in stops.act u v w (works.faults, works.later) stops.fails;
+}
+
+ends_behind : (a b : List Act) (u v w : World) → Does a u v → StopsBefore b v w → StopsBefore (a ++ b) u w
+ends_behind a b u v w first stops = record {
+  before = a ++ stops.before;
+  after = stops.after;
+  order = ap (λ acts. a ++ acts) stops.order ∙ sym (append_assoc a stops.before stops.after);
+  done = does_both a stops.before u v w first stops.done;
+}
+
+decided_read : (p : Progress) (u v w : World) (status : ℕ) (line : List ℕ) → Does [] u v → Decided p v w status line → Decided p u w status line
+decided_read p u v w status line nothing by = record { is_ending = by.is_ending; done = does_both [] p.acts u v w nothing by.done }
+
+-- files that are read before change no cause
+pub cause_read : {save : Option (List ℕ)} (p : Progress) (u v w : World) (end : End) → Does [] u v → Works save u v → HasCause p v w end → HasCause p u w end
+cause_read p u v w (ends.Done forged) nothing works cause = decided_read p u v w _ _ nothing cause
+cause_read p u v w BadWords nothing works cause = absurd cause
+cause_read p u v w (BadTopology kind key item) nothing works cause = decided_read p u v w _ _ nothing cause
+cause_read p u v w LongTopology nothing works cause = decided_read p u v w _ _ nothing cause
+cause_read p u v w (BadScript line kind) nothing works cause = decided_read p u v w _ _ nothing cause
+cause_read p u v w LongScript nothing works cause = decided_read p u v w _ _ nothing cause
+cause_read p u v w (BadCapture damage) nothing works cause = decided_read p u v w _ _ nothing cause
+cause_read p u v w (ReadFault name) nothing works cause = decided_read p u v w _ _ nothing cause
+cause_read {save} p u v w WriteFault nothing works cause = stops_behind [] p.acts save u v w nothing works cause
+cause_read p u v w ends.OutOfMemory nothing works cause = ends_behind [] p.acts u v w nothing cause
+
+-- ---- verdicts
+
+pub count_all-both : (c : Counts) (vs ws : List Verdict) → count_all (count_all c vs) ws ≡ count_all c (vs ++ ws)
+unfolding count_all
+count_all-both c [] ws = refl
+count_all-both c (v ∷ vs) ws = count_all-both (counted c v) vs ws
+
+pub verdicts-append : (xs ys : List Done) → all_verdicts (xs ++ ys) ≡ all_verdicts xs ++ all_verdicts ys
+unfolding all_verdicts
+verdicts-append xs ys = flat_map-append (λ (d : Done). verdicts_in d.answer) xs ys
+
+-- ---- one command after the other
+
+pub ran_none : (x : Records) (w : World) → Ran x x [] w w
+unfolding state_after run_from all_verdicts count_all
+ran_none x w = record {
+  network = refl;
+  script = refl;
+  save = refl;
+  state = refl;
+  steps = omega arith;
+  counts = refl;
+  few = omega arith;
+  acts = nothing_done w;
+  works = works_read (saved_by x) w w (keeps_all w.contents) (omega arith) refl;
+  fits = All-nil Fits;
+}
+
+-- the store was read meanwhile
+pub ran_read : (x y : Records) (cs : List Command) (u v w : World) → Ran x y cs u v → KeepsFiles v.contents w.contents → v.faults ≤ w.faults → w.writes ≡ v.writes
+    → Does [] v w → Ran x y cs u w
+ran_read x y cs u v w ran keeps later writes nothing = record {
+  network = ran.network;
+  script = ran.script;
+  save = ran.save;
+  state = ran.state;
+  steps = ran.steps;
+  counts = ran.counts;
+  few = ran.few;
+  acts = subst (λ (acts : List Act). Does acts u w) (append-nil (acts_of x cs)) (does_both (acts_of x cs) [] u v w ran.acts nothing);
+  works = works_both (saved_by x) u v w ran.works (works_read (saved_by x) v w keeps later writes);
+  fits = ran.fits;
+}
+
+module _ (x y : Records) (cs : List Command) (u v : World) (ran : Ran x y cs u v) where
+  same_save : saved_by y ≡ saved_by x
+  same_save = ap (option_map (λ name. name.now)) ran.save
+
+  -- the acts of these commands and of others behind them
+  pub acts_both : (ds : List Command) → acts_of x (cs ++ ds) ≡ acts_of x cs ++ acts_of y ds
+  acts_both ds =
+      let f = step_acts (saved_by x) x.script x.world.network in
+      ap (flat_map f) (run_from-append x.world.network x.world.state cs ds)
+      ∙ (flat_map-append f (run_from x.world.network x.world.state cs) (run_from x.world.network (state_after x.world.network x.world.state cs) ds)
+      ∙ sym (λ k. acts_of x cs ++ flat_map (step_acts (same_save k) (ran.script k) (ran.network k)) (run_from (ran.network k) (ran.state k) ds)))
+
+  counts_both : (ds : List Command)
+      → count_all y.counts (all_verdicts (run_from y.world.network y.world.state ds)) ≡ count_all x.counts (all_verdicts (run_from x.world.network x.world.state (cs ++ ds)))
+  counts_both ds =
+      let t = x.world.network in
+      let s = x.world.state in
+      let front = run_from t s cs in
+      let back = run_from t (state_after t s cs) ds in
+      (λ k. count_all (ran.counts k) (all_verdicts (run_from (ran.network k) (ran.state k) ds)))
+      ∙ (count_all-both x.counts (all_verdicts front) (all_verdicts back)
+      ∙ ap (count_all x.counts) (sym (ap all_verdicts (run_from-append t s cs ds) ∙ verdicts-append front back)))
+
+  pub ran_both : (z : Records) (ds : List Command) (w : World) → Ran y z ds v w → Ran x z (cs ++ ds) u w
+  ran_both z ds w then_ran =
+      let works : Works (saved_by x) v w = subst (λ (save : Option (List ℕ)). Works save v w) same_save then_ran.works in
+      let acts : Does (acts_of x cs ++ acts_of y ds) u w = does_both (acts_of x cs) (acts_of y ds) u v w ran.acts then_ran.acts in
+      record {
+        network = then_ran.network ∙ ran.network;
+        script = then_ran.script ∙ ran.script;
+        save = then_ran.save ∙ ran.save;
+        state = then_ran.state ∙ ((λ k. state_after (ran.network k) (ran.state k) ds) ∙ sym (state_after-append x.world.network x.world.state cs ds));
+        steps = omega (arith, ran.steps, then_ran.steps, length-append cs ds);
+        counts = then_ran.counts ∙ counts_both ds;
+        few = omega (arith, ran.few, then_ran.few, length-append cs ds);
+        acts = subst (λ (a : List Act). Does a u w) (sym (acts_both ds)) acts;
+        works = works_both (saved_by x) u v w ran.works works;
+        fits = All-append Fits cs ds ran.fits then_ran.fits;
+      }
+
+  -- less was done of others behind them
+  pub ran_stopped : (ds : List Command) (e : PortError) (w : World) → StopsIn y ds e v w → StopsIn x (cs ++ ds) e u w
+  ran_stopped ds e w (stops, works) =
+      let less : Stopped (saved_by x) (acts_of y ds) v w e = subst (λ (save : Option (List ℕ)). Stopped save (acts_of y ds) v w e) same_save stops in
+      let wrote : Works (saved_by x) v w = subst (λ (save : Option (List ℕ)). Works save v w) same_save works in (
+        subst (λ (a : List Act). Stopped (saved_by x) a u w e) (sym (acts_both ds))
+            (stopped_later (saved_by x) (acts_of x cs) (acts_of y ds) u v w e ran.acts ran.works less),
+        works_both (saved_by x) u v w ran.works wrote,
+      )
+
+-- less of the first commands is less of all
+pub stops_more : (x : Records) (cs ds : List Command) (e : PortError) (u v : World) → StopsIn x cs e u v → StopsIn x (cs ++ ds) e u v
+stops_more x cs ds e u v (stops, works) =
+    let f = step_acts (saved_by x) x.script x.world.network in
+    let t = x.world.network in
+    let back = run_from t (state_after t x.world.state cs) ds in
+    let parts : acts_of x (cs ++ ds) ≡ acts_of x cs ++ flat_map f back =
+    ap (flat_map f) (run_from-append t x.world.state cs ds) ∙ flat_map-append f (run_from t x.world.state cs) back in (
+      subst (λ (a : List Act). Stopped (saved_by x) a u v e) (sym parts) (stopped_more (saved_by x) (acts_of x cs) (flat_map f back) u v e stops),
+      works,
+    )
+
+-- ---- records
+
+pub records-append : (xs ys : List Captured) → records_commands (xs ++ ys) ≡ records_commands xs ++ records_commands ys
+unfolding records_commands
+records-append xs ys = flat_map-append record_commands xs ys
+
+pub record_last : (xs : List Captured) (y : Captured) → records_commands (xs ++ y ∷ []) ≡ records_commands xs ++ record_commands y
+unfolding records_commands
+record_last xs y = records-append xs (y ∷ []) ∙ ap (λ cs. records_commands xs ++ cs) (append-nil (record_commands y))
+
+-- two commands each
+pub two_each : (records : List Captured) → length (records_commands records) ≡ 2 * length records
+unfolding records_commands
+two_each [] = omega arith
+two_each (x ∷ records) = omega (arith, two_each records)
+
+-- ---- one command
+
+one_act : (x : Records) (c : Command) → acts_of x (c ∷ []) ≡ step_acts (saved_by x) x.script x.world.network (done_by x.world.network x.world.state c)
+unfolding run_from
+one_act x c = append-nil (step_acts (saved_by x) x.script x.world.network (done_by x.world.network x.world.state c))
+
+pub ran_one : (x y : Records) (c : Command) (u v : World) → y.world.network ≡ x.world.network → y.script ≡ x.script → y.save ≡ x.save
+    → y.world.state ≡ (next x.world.network x.world.state c).state → y.counts ≡ count_all x.counts (verdicts_in (next x.world.network x.world.state c).answer)
+    → total y.counts ≤ total x.counts + 66 → Does (step_acts (saved_by x) x.script x.world.network (done_by x.world.network x.world.state c)) u v
+    → Works (saved_by x) u v → Fits c → Ran x y (c ∷ []) u v
+unfolding state_after run_from all_verdicts done_by
+ran_one x y c u v network script save state counts few done works fits = record {
+  network = network;
+  script = script;
+  save = save;
+  state = state;
+  steps = ap (λ (s : State). s.steps) state ∙ next_counts x.world.network x.world.state c;
+  counts = counts ∙ ap (count_all x.counts) (sym (append-nil (verdicts_in (next x.world.network x.world.state c).answer)));
+  few = omega (arith, few);
+  acts = subst (λ (acts : List Act). Does acts u v) (sym (one_act x c)) done;
+  works = works;
+  fits = All-cons Fits c [] fits (All-nil Fits);
+}
+
+pub stops_one : (x : Records) (c : Command) (e : PortError) (u v : World)
+    → Stopped (saved_by x) (step_acts (saved_by x) x.script x.world.network (done_by x.world.network x.world.state c)) u v e
+    → Works (saved_by x) u v → StopsIn x (c ∷ []) e u v
+stops_one x c e u v stops works = (subst (λ (acts : List Act). Stopped (saved_by x) acts u v e) (sym (one_act x c)) stops, works)
+
+-- ---- a record: two commands, taken behind others
+
+module _ (x y : Records) (xs : List Captured) (u v : World) (c : Captured) (ran : Ran x y (records_commands xs) u v) where
+  pub record_ran : (m z : Records) (w k : World) → Ran y m (At c.moment ∷ []) v w → Ran m z (due c.place c.bytes ∷ []) w k
+      → Ran x z (records_commands (xs ++ c ∷ [])) u k
+  record_ran m z w k first second =
+      subst (λ (cs : List Command). Ran x z cs u k) (sym (record_last xs c))
+      (ran_both x y (records_commands xs) u v ran z (At c.moment ∷ due c.place c.bytes ∷ []) k
+      (ran_both y m (At c.moment ∷ []) v w first z (due c.place c.bytes ∷ []) k second))
+
+  -- it stopped at the moment
+  pub stopped_first : (e : PortError) (w : World) → StopsIn y (At c.moment ∷ []) e v w → StopsIn x (records_commands (xs ++ c ∷ [])) e u w
+  stopped_first e w stops =
+      subst (λ (cs : List Command). StopsIn x cs e u w) (sym (record_last xs c))
+      (ran_stopped x y (records_commands xs) u v ran (At c.moment ∷ due c.place c.bytes ∷ []) e w
+      (stops_more y (At c.moment ∷ []) (due c.place c.bytes ∷ []) e v w stops))
+
+  -- or at the packet
+  pub stopped_second : (m : Records) (e : PortError) (w k : World) → Ran y m (At c.moment ∷ []) v w → StopsIn m (due c.place c.bytes ∷ []) e w k
+      → StopsIn x (records_commands (xs ++ c ∷ [])) e u k
+  stopped_second m e w k first stops =
+      subst (λ (cs : List Command). StopsIn x cs e u k) (sym (record_last xs c))
+      (ran_stopped x y (records_commands xs) u v ran (At c.moment ∷ due c.place c.bytes ∷ []) e k
+      (ran_stopped y m (At c.moment ∷ []) v w first (due c.place c.bytes ∷ []) e k stops))
+
+  -- or before either
+  pub stopped_before : Does [] v v → StopsIn x (records_commands (xs ++ c ∷ [])) OutOfMemory u v
+  stopped_before nothing = (
+    record {
+      before = acts_of x (records_commands xs);
+      after = _;
+      order = ap (acts_of x) (record_last xs c) ∙ acts_both x y (records_commands xs) u v ran (record_commands c);
+      done = ran.acts;
+    },
+    ran.works,
+  )
+
+  -- the packet was taken, or it stopped at it
+  pub takes_second : (m z : Records) (w k : World) (r : Result (Unit {0}) PortError) → Ran y m (At c.moment ∷ []) v w
+      → OnOk r (Ran m z (due c.place c.bytes ∷ []) w k) → IfErr r (λ e. StopsIn m (due c.place c.bytes ∷ []) e w k)
+      → Takes {X = Unit {0}} c (λ ys. Ran x z (records_commands ys) u k) (λ d e. StopsIn x (records_commands (xs ++ d ∷ [])) e u k) xs r
+  takes_second m z w k (Ok done) first ok err = record_ran m z w k first ok
+  takes_second m z w k (Err e) first ok err = stopped_second m e w k first err
+
+-- a file that isn't saved stays
+pub spared_stays : (save : Option (List ℕ)) (name : List ℕ) (old new : Option Files) → OthersKeep save old new → ¬ Contains (option_to_list save) name → SameFile name old new
+spared_stays save name None new others absent = tt
+spared_stays save name (Some f) None others absent = absurd others
+spared_stays save name (Some f) (Some g) others absent = others name absent
+
+-- each record takes the room of one
+pub room_left : (a b m n : ℕ) → b ≤ a + 2 → n ≤ m + 132 → min ((1073741823 - a) / 2) ((2 ^ 63 - m) / 256) ≤ min ((1073741823 - b) / 2) ((2 ^ 63 - n) / 256) + 1
+room_left a b m n steps verdicts = grind (arith, steps, verdicts)
+
+-- ---- the laws of taking
+
+-- no record was taken
+pub took_none : (x : Records) (w : World) → Ran x x (records_commands []) w w
+unfolding records_commands
+took_none x w = ran_none x w
+
+-- the store was read meanwhile
+pub took_read : (x y : Records) (xs : List Captured) (u : World) (contents : Option Files) (reads writes : List ℕ → ℕ) (now : Option Files) (counts later : List ℕ → ℕ)
+    (written : Option (List ℕ)) (faults : ℕ) → Ran x y (records_commands xs) u (world contents reads writes written faults) → KeepsFiles contents now → later ≡ writes
+    → Ran x y (records_commands xs) u (world now counts later written faults)
+took_read x y xs u contents reads writes now counts later written faults ran keeps same =
+    let v = world contents reads writes written faults in
+    let w = world now counts later written faults in
+    ran_read x y (records_commands xs) u v w ran keeps (omega arith) same (does_nothing v w keeps (Appends-none written))

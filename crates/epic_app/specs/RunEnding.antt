@@ -1,0 +1,65 @@
+-- Private: serves proofs of this crate alone; no public contract cites it.
+-- How a run ends behind its script.
+use Rattle.std.specs.Prelude.{◌≡◌, ℕ, ◌*◌, ◌<◌, ◌≤◌, false, List, length, Option, Contains, ⊤}
+use Rattle.std.specs.List.{AllByRecursion}
+use Rattle.std.specs.Option.{option_to_list}
+use Rattle.epic_num.specs.declared.command.Command.{Command}
+use Rattle.epic_ports.specs.Faults.{Rose}
+use Rattle.epic_topo.specs.Network.{Network}
+use Rattle.epic_text.specs.Counts.{counts_of, total}
+use Rattle.epic_model.specs.State.{start}
+use Rattle.epic_world.specs.Run.{run, state_after}
+use Rattle.epic_words.specs.Request.{RunRequest, Run, shares_files}
+use Rattle.epic_app.specs.declared.end.End.{End}
+use Rattle.epic_app.specs.declared.end.End.TheVariants.{Done, BadWords, BadTopology, LongTopology, BadScript, LongScript, BadCapture, ReadFault, WriteFault, OutOfMemory}
+use Rattle.epic_app.specs.declared.taking.Records.{Records}
+use Rattle.epic_app.specs.Acts.{World, Does}
+use Rattle.epic_app.specs.Captures.{RecordsFit}
+use Rattle.epic_app.specs.Doing.{run_by, steps_acts}
+use Rattle.epic_app.specs.End.{HasCause, status_of}
+use Rattle.epic_app.specs.Performing.{Blamed, Works}
+use Rattle.epic_app.specs.Readings.{Reading, AreRead}
+use Rattle.epic_app.specs.RunReport.{all_verdicts}
+use Rattle.epic_app.specs.Taking.{saved_by}
+
+-- the commands of a script were done, and what is to come begins behind them
+pub record IsBehind (x : Records) (t : Network) (commands : List Command) (old new : World) : Type 0 where
+  pub network : x.world.network ≡ t
+  pub state : x.world.state ≡ state_after t start commands
+  pub steps : x.world.state.steps ≡ length commands
+  pub script : x.script ≡ length commands
+  pub counts : x.counts ≡ counts_of 0 (all_verdicts (run t commands))
+  pub few : length commands ≤ 524288
+  pub total : total x.counts ≤ 66 * length commands
+  pub done : Does (steps_acts (saved_by x) (length commands) t (run t commands)) old new
+  pub works : Works (saved_by x) old new
+  pub reads : new.reads ≡ old.reads
+
+-- the count that rose where a read of the capture or a write failed
+abbrev pub RunBlames : Option (List ℕ) → Option (List ℕ) → World → World → End → Type 0
+RunBlames capture save old new (Done forged) = ⊤
+RunBlames capture save old new BadWords = ⊤
+RunBlames capture save old new (BadTopology kind key item) = ⊤
+RunBlames capture save old new LongTopology = ⊤
+RunBlames capture save old new (BadScript line kind) = ⊤
+RunBlames capture save old new LongScript = ⊤
+RunBlames capture save old new (BadCapture damage) = ⊤
+RunBlames capture save old new (ReadFault name) =
+    Contains (option_to_list capture) name.now × Rose (old.reads name.now) (new.reads name.now)
+RunBlames capture save old new WriteFault = Blamed save old new
+RunBlames capture save old new OutOfMemory = ⊤
+
+-- a run of a script, and of a capture if one is named, ended so
+pub record RunEnds (capture save : Option (List ℕ)) (t : Network) (commands : List Command) (old new : World) (end : End) : Type 0 where
+  pub readings : List Reading
+  pub are_read : AreRead old new (option_to_list capture) readings
+  pub cause : HasCause (run_by capture readings save t commands) old new end
+  pub blames : RunBlames capture save old new end
+  pub fits : status_of end < 2 → AllByRecursion RecordsFit readings
+  pub later : (q : List ℕ) → old.reads q ≤ new.reads q
+  pub reads : (q : List ℕ) → ¬ Contains (option_to_list capture) q → new.reads q ≡ old.reads q
+  pub works : Works save old new
+
+-- no file that is written is read too
+abbrev pub IsUnshared : RunRequest → Type 0
+IsUnshared r = shares_files (Run r) ≡ false

@@ -1,0 +1,141 @@
+//! The records of a capture as steps of a run.
+
+ghost use Rattle.std.specs.Prelude.{◌≡◌, ◌-◌, ◌^◌, ◌<◌, ◌≤◌, ◌∷◌, [], OnOk, IfErr};
+ghost use Rattle.epic_num.specs.declared.command.Command.TheVariants.{At};
+ghost use Rattle.epic_num.specs.declared.moment.TheConstants.{MAX_MOMENT};
+ghost use Rattle.epic_text.specs.Counts.{total};
+ghost use Rattle.epic_world.specs.Stepped.{IsPossible};
+ghost use Rattle.epic_app.specs.Acts as acts;
+ghost use Rattle.epic_app.specs.Captures as captures;
+ghost use Rattle.epic_app.specs.Performing.{Works};
+ghost use Rattle.epic_app.specs.Taking.{Ran, StopsIn, saved_by};
+
+use crate::run_report::write_step;
+use epic_capture::Record;
+use epic_feed::Taker;
+use epic_num::{Bytes, Command, Place};
+use epic_ports::{PortError, Sink, Store};
+use epic_text::Counts;
+use epic_world::{World, fits};
+use std::alloc::Global;
+
+/// A run behind its script, which takes the records of a capture: each is two steps, one to its
+/// moment and one of its packet.
+#[derive(Drop)]
+pub struct Records<'a> {
+    pub alloc: Global,
+    pub world: World,
+    pub counts: Counts,
+    /// How many commands the script has.
+    pub script: u32,
+    /// The file that is saved.
+    pub save: Option<&'a str>,
+}
+
+/// The command that sets the clock to a moment, in microseconds.
+#[tactic(auto, unfolding(epic_world::specs::Stepped::IsPossible))]
+fn at(moment: u64) -> Command
+    requires { moment ≤ MAX_MOMENT }
+    ensures value { result ≡ At moment }
+    ensures possible { IsPossible result }
+{
+    Command::At { moment }
+}
+
+/// The command of a packet that comes to the place where it is due.
+#[tactic(auto, unfolding(epic_world::specs::Stepped::IsPossible))]
+fn due(place: Place, bytes: Bytes) -> Command
+    ensures value { result ≡ captures.due place bytes }
+    ensures possible { IsPossible result }
+{
+    match place {
+        Place::Router { asn, iface } => Command::Turn {
+            a: asn,
+            iface,
+            bytes,
+        },
+        Place::Host(host) => Command::Arrive { host, bytes },
+    }
+}
+
+impl Records<'_> {
+    /// Does a command as a step of the run.
+    fn step<S: Store, O: Sink>(
+        &mut self,
+        command: &Command,
+        store: &mut S,
+        out: &mut O,
+    ) -> Result<(), PortError>
+        requires possible { IsPossible command.now }
+        requires few { self.old.world.state.steps < 2 ^ 30 - 1 }
+        requires room { total self.old.counts < 2 ^ 63 }
+        ensures ok { OnOk result (Ran self.old self.new (command.now ∷ [])
+            (acts.world (S.contents store.old) (S.reads store.old) (S.writes store.old)
+            (O.written out.old) (O.faults out.old))
+            (acts.world (S.contents store.new) (S.reads store.new) (S.writes store.new)
+            (O.written out.new) (O.faults out.new))) }
+        ensures err { IfErr result (λ e. StopsIn self.old (command.now ∷ []) e
+            (acts.world (S.contents store.old) (S.reads store.old) (S.writes store.old)
+            (O.written out.old) (O.faults out.old))
+            (acts.world (S.contents store.new) (S.reads store.new) (S.writes store.new)
+            (O.written out.new) (O.faults out.new))) }
+        ensures save { self.new.save ≡ self.old.save }
+        ensures works { Works (saved_by self.old)
+            (acts.world (S.contents store.old) (S.reads store.old) (S.writes store.old)
+            (O.written out.old) (O.faults out.old))
+            (acts.world (S.contents store.new) (S.reads store.new) (S.writes store.new)
+            (O.written out.new) (O.faults out.new)) }
+        ensures reads { S.reads store.new ≡ S.reads store.old }
+    {
+        fits(command);
+        match write_step(
+            self.alloc,
+            &mut self.world,
+            self.script,
+            command,
+            self.counts,
+            self.save,
+            store,
+            out,
+        ) {
+            Ok(counts) => {
+                self.counts = counts;
+                Ok(())
+            }
+            Err(error) => Err(error),
+        }
+    }
+}
+
+impl<S: Store, O: Sink> Taker<S, O> for Records<'_> {
+    ghost use Rattle.std.specs.Prelude.{◌∷◌, ◌++◌, []};
+    ghost use Rattle.epic_app.specs.Acts.{world};
+    ghost use Rattle.epic_app.specs.Captures.{records_commands};
+    ghost use Rattle.epic_app.specs.Taking.{Ran, StopsIn, room_in, spares_in};
+
+    ghost took = { λ x s o xs y t p. Ran x y (records_commands xs)
+        (world (S.contents s) (S.reads s) (S.writes s) (O.written o) (O.faults o))
+        (world (S.contents t) (S.reads t) (S.writes t) (O.written p) (O.faults p)) };
+
+    ghost stopped = { λ x s o xs c e y t p. StopsIn x (records_commands (xs ++ c ∷ [])) e
+        (world (S.contents s) (S.reads s) (S.writes s) (O.written o) (O.faults o))
+        (world (S.contents t) (S.reads t) (S.writes t) (O.written p) (O.faults p)) };
+
+    ghost spares = { spares_in };
+
+    ghost room = { room_in };
+
+    fn take(&mut self, store: &mut S, out: &mut O, found: &Record<'_>) -> Result<(), PortError> {
+        let Ok(bytes) = Vec::from_slice(self.alloc, found.bytes) else {
+            return Err(PortError::OutOfMemory);
+        };
+        let moment = at(found.moment);
+        match self.step(&moment, store, out) {
+            Ok(()) => {
+                let packet = due(found.place, Bytes::from_vec(bytes));
+                self.step(&packet, store, out)
+            }
+            Err(error) => Err(error),
+        }
+    }
+}
