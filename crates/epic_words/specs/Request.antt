@@ -1,6 +1,7 @@
 -- What the words of the command line ask for. A new command adds a case to each definition.
 use Rattle.std.specs.Prelude.{ℕ, if◌then◌else◌, ◌||◌, Bool, false, List, [], ◌∷◌, ◌++◌, Option}
-use Rattle.std.specs.Prelude.{Some, None, Result, Ok, Err, codes, bytes_eq, unwrap_or}
+use Rattle.std.specs.Prelude.{Some, None, Result, Ok, Err, codes, bytes_eq, option_and_then}
+use Rattle.std.specs.Prelude.{option_map, unwrap_or}
 use Rattle.std.specs.List.{list_any}
 use Rattle.std.specs.Option.{option_to_list}
 use Rattle.clap.specs.Words.{Row, first_of}
@@ -9,7 +10,14 @@ use Rattle.hex.specs.declared.error.FromHexError.{FromHexError}
 use Rattle.epic_num.specs.Names.{number_of, within}
 use Rattle.epic_words.specs.RunCommand.{is_refused, rows_in, run_command}
 
--- the names of the files of `run`
+-- the limits on the packets of each source AS
+pub record Policing : Type 0 where
+  -- the bytes that a source may pass within a span
+  pub budget : ℕ
+  -- the span, in microseconds
+  pub span_us : ℕ
+
+-- what is asked of `run`
 pub record RunRequest : Type 0 where
   pub topology : List ℕ
   pub script : List ℕ
@@ -17,6 +25,10 @@ pub record RunRequest : Type 0 where
   pub capture : Option (List ℕ)
   -- the file to which each emission is saved
   pub save : Option (List ℕ)
+  -- the report also says who made the fields of packets of level 1
+  pub makers : Bool
+  -- and which packets a source sent beyond its budget
+  pub police : Option Policing
 
 pub data Request : Type 0 where
   -- `hop KEY FILE`: the bytes of the key, the name of the file
@@ -52,6 +64,10 @@ shares_files request = is_shared (reads_of request) (writes_of request)
 
 -- ---- the words
 
+-- the decimal number that a word writes, where it is in these bounds
+unfoldable pub number_in : ℕ → ℕ → List ℕ → Option ℕ
+number_in least most word = within least most (number_of word)
+
 abbrev pub hop_request : List ℕ → Result (List ℕ) FromHexError → Option Request
 hop_request name (Ok key) = Some (Hop key name)
 hop_request name (Err error) = None
@@ -61,39 +77,56 @@ unfoldable pub hop_of : List (List ℕ) → Option Request
 hop_of (key ∷ name ∷ []) = hop_request name (decode_sized key 16)
 hop_of words = None
 
--- the value of an argument that has to be there
+-- the limits of two numbers, where both are there
+abbrev pub policing : Option ℕ → Option ℕ → Option Policing
+policing (Some budget) (Some span) = Some (record { budget = budget; span_us = span })
+policing budget span = None
+
+-- the values of `--budget` and `--span`, both or neither: a number of bytes up to 2^40, and one of
+-- microseconds up to an hour; none where they are refused
+unfoldable pub police_of : Option (List ℕ) → Option (List ℕ) → Option (Option Policing)
+police_of None None = Some None
+police_of (Some budget) (Some span) =
+    option_map Some (policing (number_in 1 1099511627776 budget) (number_in 1 3600000000 span))
+police_of budget span = None
+
+-- the value of an argument that always has one
 abbrev pub name_at : List ℕ → List Row → List ℕ
 name_at id rows = unwrap_or (first_of id rows) []
 
--- the names that clap found
-abbrev pub run_request : List Row → RunRequest
-run_request rows = record {
+-- what clap found, with these limits of a source
+abbrev pub run_with : List Row → Option Policing → RunRequest
+run_with rows police = record {
   topology = name_at (codes "topology") rows;
   script = name_at (codes "script") rows;
   capture = first_of (codes "capture") rows;
   save = first_of (codes "save") rows;
+  makers = bytes_eq (name_at (codes "makers") rows) (codes "true");
+  police = police;
 }
+
+-- what clap found asks for; none where its numbers are refused
+abbrev pub run_request : List Row → Option RunRequest
+run_request rows =
+    option_map (run_with rows)
+    (police_of (first_of (codes "budget") rows) (first_of (codes "span") rows))
 
 -- the request, where no file that is written has the name of another
 abbrev pub unless_shared : RunRequest → Option Request
 unless_shared r = if shares_files (Run r) then None else Some (Run r)
 
--- the words after `run`: those that clap takes, where no file that is written has the name of
--- another
+-- the words after `run`: those that clap takes, where the numbers are in their bounds and no file
+-- that is written has the name of another
 unfoldable pub run_of : List (List ℕ) → Option Request
 run_of words =
     if is_refused run_command words then None
-    else unless_shared (run_request (rows_in run_command words))
+    else option_and_then unless_shared (run_request (rows_in run_command words))
 
 -- the request of two numbers, where both are there
 abbrev pub gen_request : Option ℕ → Option ℕ → Option Request
 gen_request None packets = None
 gen_request (Some seed) None = None
 gen_request (Some seed) (Some packets) = Some (Gen seed packets)
-
--- the decimal number that a word writes, where it is in these bounds
-unfoldable pub number_in : ℕ → ℕ → List ℕ → Option ℕ
-number_in least most word = within least most (number_of word)
 
 -- the words after `gen`: a decimal number of 64 bits, and one from 1 to 100,000
 unfoldable pub gen_of : List (List ℕ) → Option Request

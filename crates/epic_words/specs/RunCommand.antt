@@ -3,7 +3,7 @@ use Rattle.std.specs.Prelude.{Bool, true, List, [], ◌∷◌, Some, codes}
 use Rattle.std.specs.List.{list_any}
 use Rattle.clap.specs.Words.{App, Row, Rule, Text, fault_of, matches_of, new_app, new_rule}
 use Rattle.clap.specs.Simple.{new_shape}
-use Rattle.clap.specs.declared.builder.action.ArgAction.TheVariants.{Set}
+use Rattle.clap.specs.declared.builder.action.ArgAction.TheVariants.{Set, SetTrue}
 
 -- a name that has to be there
 abbrev pub positional : Text → Rule
@@ -13,12 +13,18 @@ positional id = record (new_rule id) { required = true; action = Some Set }
 abbrev pub option : Text → Rule
 option id = record (new_rule id) { long = Some id; action = Some Set }
 
--- `TOPOLOGY SCRIPT [--capture FILE] [--save FILE]`, without `--help` and `--version`
+-- `--id`, once at most and without a value
+abbrev pub flag : Text → Rule
+flag id = record (new_rule id) { long = Some id; action = Some SetTrue }
+
+-- `TOPOLOGY SCRIPT [--capture FILE] [--save FILE] [--makers] [--budget N] [--span N]`, without
+-- `--help` and `--version`
 unfoldable pub run_command : App
 run_command = record (new_app (codes "run")) {
   top = record (new_shape (codes "run")) {
     rules = positional (codes "topology") ∷ positional (codes "script")
-        ∷ option (codes "capture") ∷ option (codes "save") ∷ [];
+        ∷ option (codes "capture") ∷ option (codes "save")
+        ∷ flag (codes "makers") ∷ option (codes "budget") ∷ option (codes "span") ∷ [];
     no_binary_name = true;
     disable_help_flag = true;
     disable_version_flag = true;

@@ -1,8 +1,8 @@
 //! The words after the program's name.
 
-ghost use Rattle.std.specs.Prelude.{◌≡◌, codes, map, Err, IsTrue};
+ghost use Rattle.std.specs.Prelude.{◌≡◌, ◌≤◌, codes, map, Err, IfOk, IsTrue};
 ghost use Rattle.std.specs.String.{string_bytes};
-ghost use Rattle.epic_words.specs.Answers.{AsksFor, request_in};
+ghost use Rattle.epic_words.specs.Answers.{AsksFor, IfPoliced, request_in};
 ghost use Rattle.epic_words.specs.Request.{is_command, request_of};
 
 use crate::error::WordsError;
@@ -31,6 +31,11 @@ pub fn asked_for<'a>(alloc: Global, words: &'a [String]) -> Result<Asked<'a>, Wo
     ensures asks { AsksFor request_in (request_of (map string_bytes words.entry.now)) result }
     ensures memory { result ≡ Err WordsError.OutOfMemory
         → IsTrue (is_command (codes "run") (map string_bytes words.entry.now)) }
+    ensures some_bytes { IfOk result (λ asked. IfPoliced asked (λ p. 1 ≤ p.budget)) }
+    ensures most_bytes { IfOk result
+        (λ asked. IfPoliced asked (λ p. p.budget ≤ 1099511627776)) }
+    ensures some_time { IfOk result (λ asked. IfPoliced asked (λ p. 1 ≤ p.span_us)) }
+    ensures most_time { IfOk result (λ asked. IfPoliced asked (λ p. p.span_us ≤ 3600000000)) }
 {
     let [command, rest @ ..] = words else {
         return Err(WordsError::Refused);

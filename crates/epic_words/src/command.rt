@@ -3,7 +3,8 @@
 ghost use Rattle.std.specs.Prelude.{◌≡◌, IfOk, IfErr, map, true, false};
 ghost use Rattle.std.specs.String.{string_bytes};
 ghost use Rattle.clap.specs.Words.{app_of, found_of, new_app, rows_of, rule_of};
-ghost use Rattle.epic_words.specs.RunCommand.{is_refused, option, positional, rows_in, run_command};
+ghost use Rattle.epic_words.specs.RunCommand.{flag, option, positional};
+ghost use Rattle.epic_words.specs.RunCommand.{is_refused, rows_in, run_command};
 
 use crate::error::WordsError;
 use clap::error::ErrorKind;
@@ -18,12 +19,20 @@ fn positional<'a>(alloc: Global, id: &'a str) -> Arg<'a>
     Arg::new(alloc, id).required(true).action(ArgAction::Set)
 }
 
-/// An option with the name of a file.
+/// An option with a value.
 fn option<'a>(alloc: Global, id: &'a str) -> Arg<'a>
     ensures rule { rule_of result ≡ option id.entry.now }
     ensures local { result.global ≡ false }
 {
     Arg::new(alloc, id).long(id).action(ArgAction::Set)
+}
+
+/// An option without a value.
+fn flag<'a>(alloc: Global, id: &'a str) -> Arg<'a>
+    ensures rule { rule_of result ≡ flag id.entry.now }
+    ensures local { result.global ≡ false }
+{
+    Arg::new(alloc, id).long(id).action(ArgAction::SetTrue)
 }
 
 /// The command of the words after `run`. An error comes only where memory ran out.
@@ -38,7 +47,10 @@ fn run_command<'a>(alloc: Global) -> Result<Command<'a>, AllocError>
     bare.arg(positional(alloc, "topology"))?
         .arg(positional(alloc, "script"))?
         .arg(option(alloc, "capture"))?
-        .arg(option(alloc, "save"))
+        .arg(option(alloc, "save"))?
+        .arg(flag(alloc, "makers"))?
+        .arg(option(alloc, "budget"))?
+        .arg(option(alloc, "span"))
 }
 
 /// What clap finds in the words after `run`.

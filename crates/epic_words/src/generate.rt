@@ -1,17 +1,14 @@
 //! The words of `gen`.
 
-ghost use Rattle.std.specs.Prelude.{◌≡◌, ◌^◌, ◌<◌, ◌≤◌, map, IfSome, MatchOption, None, Some};
+ghost use Rattle.std.specs.Prelude.{◌≡◌, ◌≤◌, map, IfSome, MatchOption, None, Some};
 ghost use Rattle.std.specs.String.{string_bytes};
 ghost use Rattle.epic_words.specs.Answers.{gen_in};
-ghost use Rattle.epic_words.specs.Request.{gen_of, number_in};
+ghost use Rattle.epic_words.specs.Request.{gen_of};
 
-use epic_num::read_number;
+use crate::number::number;
 
 /// The most packets of `gen`.
 const MOST_PACKETS: u64 = 100_000;
-
-/// The most digits of a number of 64 bits.
-const MOST_DIGITS: usize = 20;
 
 /// What `gen SEED PACKETS` names.
 #[derive(Clone, Copy, Debug, PartialEq, Eq)]
@@ -20,21 +17,6 @@ pub struct GenWords {
     pub seed: u64,
     /// How many packets are sent, from 1 to 100,000.
     pub packets: u32,
-}
-
-/// The decimal number of a word, if it is one within these bounds.
-fn number(word: &str, least: u64, most: u64) -> Option<u64>
-    ensures value { result ≡ number_in least most word.now }
-    ensures most { IfSome result (λ n. n ≤ most) }
-    ensures least { IfSome result (λ n. least ≤ n) }
-{
-    if word.len() > MOST_DIGITS {
-        return None;
-    }
-    match read_number(word.as_bytes(), most) {
-        Ok(n) if n >= least => Some(n),
-        _ => None,
-    }
 }
 
 /// Reads the words after `gen`: SEED, a decimal number of 64 bits, and PACKETS, one from 1 to

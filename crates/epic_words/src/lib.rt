@@ -6,6 +6,8 @@ mod command;
 mod error;
 mod generate;
 mod hop;
+mod number;
+mod police;
 mod run;
 #[cfg(test)]
 mod tests;
@@ -14,4 +16,5 @@ pub use asked::{Asked, asked_for};
 pub use error::WordsError;
 pub use generate::{GenWords, gen_words};
 pub use hop::{HopWords, hop_words};
+pub use police::PoliceWords;
 pub use run::{RunWords, run_words};

@@ -1,13 +1,14 @@
 //! The words of `run`.
 
-ghost use Rattle.std.specs.Prelude.{◌≡◌, map};
+ghost use Rattle.std.specs.Prelude.{◌≡◌, ◌≤◌, IfOk, IfSome, map, option_map};
 ghost use Rattle.std.specs.String.{string_bytes};
 ghost use Rattle.clap.specs.Words.{found_of, rows_of};
-ghost use Rattle.epic_words.specs.Answers.{AsksFor, names_in, run_in};
-ghost use Rattle.epic_words.specs.Request.{run_of, run_request, shares_files};
+ghost use Rattle.epic_words.specs.Answers.{AsksFor, names_in, policing_in, run_in};
+ghost use Rattle.epic_words.specs.Request.{run_of, run_with, shares_files};
 
 use crate::command::parse;
 use crate::error::WordsError;
+use crate::police::{PoliceWords, police};
 use clap::ArgMatches;
 use std::alloc::Global;
 
@@ -22,17 +23,25 @@ pub struct RunWords<'a> {
     pub capture: Option<&'a str>,
     /// The file to which each emission is saved.
     pub save: Option<&'a str>,
+    /// Whether the report also says who made the fields of packets of level 1.
+    pub makers: bool,
+    /// The budget and the span of each source AS, if packets are policed.
+    pub police: Option<PoliceWords>,
 }
 
-/// The names that clap found.
-fn names<'a>(matches: &ArgMatches<'a>) -> RunWords<'a>
-    ensures { names_in result ≡ run_request (rows_of (found_of matches.now)) }
+/// The names and the flag that clap found, with this budget and span.
+fn names<'a>(matches: &ArgMatches<'a>, police: Option<PoliceWords>) -> RunWords<'a>
+    ensures value { names_in result
+        ≡ run_with (rows_of (found_of matches.now)) (option_map policing_in police) }
+    ensures police { result.police ≡ police }
 {
     RunWords {
         topology: matches.get_str("topology").unwrap_or(""),
         script: matches.get_str("script").unwrap_or(""),
         capture: matches.get_str("capture"),
         save: matches.get_str("save"),
+        makers: matches.get_str("makers").unwrap_or("") == "true",
+        police,
     }
 }
 
@@ -52,17 +61,23 @@ fn shares_files(words: &RunWords<'_>) -> bool
     }
 }
 
-/// Reads the words after `run`: TOPOLOGY and SCRIPT, with `--capture FILE` and `--save FILE`
-/// before, between or after them.
+/// Reads the words after `run`: TOPOLOGY and SCRIPT, with `--capture FILE`, `--save FILE`,
+/// `--makers`, `--budget N` and `--span N` before, between or after them.
 ///
-/// `Refused`: clap refuses the words, or the saved file has the name of another. `OutOfMemory`: no
-/// memory; it may come in place of `Refused`.
+/// `Refused`: clap refuses the words, a budget or a span stands alone or is beyond its limits, or
+/// the saved file has the name of another. `OutOfMemory`: no memory; it may come in place of
+/// `Refused`.
 #[tactic(auto, unfolding(crate::specs::Request::run_of))]
 pub fn run_words<'a>(alloc: Global, words: &'a [String]) -> Result<RunWords<'a>, WordsError>
-    ensures { AsksFor run_in (run_of (map string_bytes words.entry.now)) result }
+    ensures asks { AsksFor run_in (run_of (map string_bytes words.entry.now)) result }
+    ensures some_bytes { IfOk result (λ w. IfSome w.police (λ p. 1 ≤ p.budget)) }
+    ensures most_bytes { IfOk result (λ w. IfSome w.police (λ p. p.budget ≤ 1099511627776)) }
+    ensures some_time { IfOk result (λ w. IfSome w.police (λ p. 1 ≤ p.span_us)) }
+    ensures most_time { IfOk result (λ w. IfSome w.police (λ p. p.span_us ≤ 3600000000)) }
 {
     let matches = parse(alloc, words)?;
-    let names = names(&matches);
+    let police = police(matches.get_str("budget"), matches.get_str("span"))?;
+    let names = names(&matches, police);
     if shares_files(&names) {
         return Err(WordsError::Refused);
     }

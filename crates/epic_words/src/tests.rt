@@ -10,6 +10,8 @@ const NAMES: RunWords<'static> = RunWords {
     script: "s",
     capture: None,
     save: None,
+    makers: false,
+    police: None,
 };
 
 /// The words of a line, between its single spaces.
@@ -78,6 +80,35 @@ fn words_of_run(rt: HostRuntime) -> Result<(), Fail> {
 }
 
 #[test]
+fn words_of_makers_and_police(rt: HostRuntime) -> Result<(), Fail> {
+    let alloc = rt.alloc();
+    for (line, makers, police) in [
+        ("run t s --makers", true, None),
+        ("run --makers t s", true, None),
+        (
+            "run t s --budget 400 --span 1000000",
+            false,
+            Some((400, 1_000_000)),
+        ),
+        ("run t --span=1 --budget=1 s --makers", true, Some((1, 1))),
+        (
+            "run t s --budget 1099511627776 --span 3600000000",
+            false,
+            Some((1_099_511_627_776, 3_600_000_000)),
+        ),
+    ] {
+        let names = RunWords {
+            makers,
+            police: police.map(|(budget, span_us)| PoliceWords { budget, span_us }),
+            ..NAMES
+        };
+        let words = split(alloc, line)?;
+        assert!(rt; asked_for(alloc, &words) == Ok(Asked::Run(names)), "{line}");
+    }
+    Ok(())
+}
+
+#[test]
 fn words_that_are_refused(rt: HostRuntime) -> Result<(), Fail> {
     let alloc = rt.alloc();
     assert!(rt; asked_for(alloc, &[]) == Err(WordsError::Refused));
@@ -96,10 +127,21 @@ fn words_that_are_refused(rt: HostRuntime) -> Result<(), Fail> {
         "run t s --save -- d",
         "run -x s",
         "run t s --save=d --save=d",
-        "run t s --makers",
         "run t s --save t",
         "run t s --save s",
         "run t s --capture=c --save=c",
+        "run t s --makers --makers",
+        "run t s --makers=1",
+        "run t s --save --makers",
+        "run t s --budget 400",
+        "run t s --span 5",
+        "run t s --budget 0 --span 5",
+        "run t s --budget +4 --span 5",
+        "run t s --budget 04 --span 5",
+        "run t s --budget 1099511627777 --span 5",
+        "run t s --budget 5 --span 0",
+        "run t s --budget 5 --span 3600000001",
+        "run t s --budget= --span 5",
         "hop zz f",
         "hop 000102030405060708090a0b0c0d0e0f",
         "hop 000102030405060708090a0b0c0d0e0f f --save=d",

@@ -20,5 +20,11 @@ returns c =
     ∙ ap₂ with_rule topology c.positional-2.ensures.rule in
     let capture = c.in_ok-arg-3.ensures.shape c.option.ensures.local
     ∙ ap₂ with_rule script c.option.ensures.rule in
-    IfOk-weaker c.arg-4.result _ _ (λ command adds. adds.shape c.option-2.ensures.local
-    ∙ ap₂ with_rule capture c.option-2.ensures.rule) c.arg-4.ensures
+    let save = c.in_ok-arg-4.ensures.shape c.option-2.ensures.local
+    ∙ ap₂ with_rule capture c.option-2.ensures.rule in
+    let makers = c.in_ok-arg-5.ensures.shape c.flag.ensures.local
+    ∙ ap₂ with_rule save c.flag.ensures.rule in
+    let budget = c.in_ok-arg-6.ensures.shape c.option-3.ensures.local
+    ∙ ap₂ with_rule makers c.option-3.ensures.rule in
+    IfOk-weaker c.arg-7.result _ _ (λ command adds. adds.shape c.option-4.ensures.local
+    ∙ ap₂ with_rule budget c.option-4.ensures.rule) c.arg-7.ensures

@@ -1,6 +1,6 @@
 use Rattle.std.proofs.Common.{arith}
 use Rattle.epic_words.proofs.Numbers.{no_long_number, number_above, number_at_most, number_below, number_there}
-use Rattle.epic_words.proofs.generate.number.Goals as goal
+use Rattle.epic_words.proofs.number.number.Goals as goal
 
 pub returns-then-word-gt-MOST_DIGITS-clause-value : goal.returns-then-word-gt-MOST_DIGITS-clause-value
 returns-then-word-gt-MOST_DIGITS-clause-value c =
