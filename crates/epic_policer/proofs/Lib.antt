@@ -5,4 +5,6 @@ pub mod Folds
 pub mod Keeping
 pub mod Nodes
 pub mod Orders
+pub mod Passing
 pub mod Sums
+pub mod Tables

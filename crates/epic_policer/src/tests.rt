@@ -108,3 +108,27 @@ fn a_policer_forgets_what_is_over(rt: HostRuntime) -> Result<(), Fail> {
     assert!(rt; policer.spare() <= 16);
     Ok(())
 }
+
+#[test]
+fn each_as_has_a_policer_of_its_own(rt: HostRuntime) -> Result<(), Fail> {
+    let rows = [
+        (10, 1, 213, NOW, pass(213)),
+        (10, 1, 213, NOW, over(213)),
+        // Neither another AS nor another source is touched.
+        (20, 1, 213, NOW, pass(213)),
+        (10, 2, 400, NOW, pass(400)),
+        (20, 3, 1, NOW, Policed::Unknown),
+        (10, 1, 213, NOW + 999_999, over(213)),
+        (20, 1, 187, NOW + 999_999, pass(400)),
+        (10, 1, 213, NOW + 1_000_000, pass(213)),
+        (20, 1, 214, NOW + 1_000_000, over(187)),
+    ];
+    let sources = Vec::from_array(rt.alloc(), [AsId(1), AsId(2)])?;
+    let mut policers = Policers::new(rt.alloc(), sources, 400, 1_000_000);
+    for (at, source, bytes, now, want) in rows {
+        assert!(rt; policers.latest() <= now);
+        let given = policers.offer(rt.alloc(), AsId(at), AsId(source), bytes, now)?;
+        assert_eq!(rt; given, want, "AS {source} at {at}, {now}");
+    }
+    Ok(())
+}
