@@ -1,6 +1,6 @@
 -- Private: serves proofs of this crate alone; no public contract cites it.
 -- The policers of a network by the ASes whose packets they are offered.
-use Rattle.std.specs.Prelude.{⊤, ◌≡◌, ℕ, ◌≤◌, ◌==◌, if◌then◌else◌, List, [], Option, None, Some, Result, Ok, Err}
+use Rattle.std.specs.Prelude.{⊤, ◌≡◌, ℕ, ◌≤◌, ◌==◌, if◌then◌else◌, List, Option, None, Some, Result, Ok, Err}
 use Rattle.epic_num.specs.declared.memory.OutOfMemory.{OutOfMemory}
 use Rattle.epic_num.specs.declared.name.AsId.{AsId}
 use Rattle.epic_policer.specs.Offers.{Held, Policy, Same, after, answer, is_among}

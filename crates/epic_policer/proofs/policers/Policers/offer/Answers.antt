@@ -1,4 +1,4 @@
-use Rattle.std.proofs.Common.{◌≡◌, ◌≤◌, List, length, refl, sym, subst, rules}
+use Rattle.std.proofs.Common.{◌≤◌, List, length, refl, sym, subst}
 use Rattle.std.specs.Prelude.{Ok}
 use Rattle.epic_num.specs.declared.name.AsId.{AsId}
 use Rattle.epic_policer.specs.Offers.{Policy}
