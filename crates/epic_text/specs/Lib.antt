@@ -1,6 +1,7 @@
 pub mod Counts
 pub mod Line
 pub mod Lines
+pub mod Notes
 pub mod Refusals
 pub mod Report
 pub mod RunScript

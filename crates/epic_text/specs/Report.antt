@@ -28,6 +28,7 @@ use Rattle.epic_fields.specs.Tags.{sigma}
 use Rattle.epic_ledger.specs.Facts.{issues_in}
 use Rattle.epic_ledger.specs.History.{Emission, History, emission_at}
 use Rattle.epic_text.specs.Line.{step_line, bytes_text}
+use Rattle.epic_text.specs.Notes.{Noted, behind_hop, noted_of}
 use Rattle.epic_text.specs.Refusals.{turn_words, arrival_words, refusal_words}
 use Rattle.epic_text.specs.VerdictText.{verdict_words, IsTellable}
 
@@ -80,10 +81,11 @@ pass_words emission bytes Full = codes "refused" ∷ codes "full" ∷ []
 abbrev pub hop_line : Network → ℕ → Contents → ℕ → Verdict → List ℕ
 hop_line t step p hop verdict = step_line step (codes "hop" ∷ decimal hop ∷ verdict_words t p verdict)
 
--- one line a handled hop, the first of which is the packet's current hop as it came in
-abbrev pub hop_lines : Network → ℕ → Contents → ℕ → List Verdict → List ℕ
-hop_lines t step p hop [] = []
-hop_lines t step p hop (verdict ∷ more) = hop_line t step p hop verdict ++ hop_lines t step p (hop + 1) more
+-- one line a handled hop, from the i-th on, and its note behind it; the first is the packet's current hop as it came in
+abbrev pub hop_lines : Network → ℕ → Contents → Noted → ℕ → List Verdict → List ℕ
+hop_lines t step p notes i [] = []
+hop_lines t step p notes i (verdict ∷ more) =
+    hop_line t step p (p.current + i) verdict ++ (behind_hop notes i ++ hop_lines t step p notes (i + 1) more)
 
 -- the line of a destination
 abbrev pub dest_line : Network → ℕ → Contents → Verdict → List ℕ
@@ -92,43 +94,43 @@ dest_line t step p verdict = step_line step (codes "dest" ∷ verdict_words t p 
 abbrev pub dest_lines : Network → ℕ → Contents → List Verdict → List ℕ
 dest_lines t step p verdicts = flat_map (dest_line t step p) verdicts
 
-abbrev pub verdict_lines : Network → ℕ → Contents → PassResult → List Verdict → List ℕ
-verdict_lines t step p (Turned turn) verdicts = hop_lines t step p p.current verdicts
-verdict_lines t step p (Arrived arrival) verdicts = dest_lines t step p verdicts
-verdict_lines t step p Full verdicts = []
+abbrev pub verdict_lines : Network → ℕ → Contents → Noted → PassResult → List Verdict → List ℕ
+verdict_lines t step p notes (Turned turn) verdicts = hop_lines t step p notes 0 verdicts
+verdict_lines t step p notes (Arrived arrival) verdicts = dest_lines t step p verdicts
+verdict_lines t step p notes Full verdicts = []
 
--- the lines of a pass, of the bytes that came in and those of the emission that it made
-unfoldable pub passed_text : Network → ℕ → List ℕ → List ℕ → Passed → List ℕ
-passed_text t step came emitted passed =
+-- the lines of a pass, of the bytes that came in and those of the emission that it made, with its notes
+unfoldable pub passed_text : Network → ℕ → List ℕ → List ℕ → Noted → Passed → List ℕ
+passed_text t step came emitted notes passed =
     step_line step (pass_words passed.emission emitted passed.result)
-    ++ verdict_lines t step (parse came) passed.result passed.verdicts.items
+    ++ (verdict_lines t step (parse came) notes passed.result passed.verdicts.items ++ notes.last)
 
--- the lines of passes of which each gets what the one before emitted
-unfoldable pub carried_text : Network → (ℕ → List ℕ) → ℕ → List ℕ → List Passed → List ℕ
-carried_text t emissions step came [] = []
-carried_text t emissions step came (passed ∷ more) =
-    passed_text t step came (emissions passed.emission) passed
-    ++ carried_text t emissions step (emissions passed.emission) more
+-- the lines of passes of which each gets what the one before emitted, from the k-th on
+unfoldable pub carried_text : Network → (ℕ → List ℕ) → ℕ → List ℕ → List Noted → ℕ → List Passed → List ℕ
+carried_text t emissions step came notes k [] = []
+carried_text t emissions step came notes k (passed ∷ more) =
+    passed_text t step came (emissions passed.emission) (noted_of notes k) passed
+    ++ carried_text t emissions step (emissions passed.emission) notes (k + 1) more
 
 -- ---- answers
 
 -- The lines of an answer. The hops that were issued have their names by the issues' numbers, and the packets that were
--- emitted their bytes by the emissions' numbers; `came` are the bytes that came in.
-unfoldable pub answer_text : Network → (ℕ → HopName) → (ℕ → List ℕ) → List ℕ → ℕ → Answer → List ℕ
-answer_text t names emissions came step answer.Moment = []
-answer_text t names emissions came step (answer.Issued number) = step_line step (issue_words t number (names number))
-answer_text t names emissions came step answer.Fetched = step_line step (codes "fetched" ∷ [])
-answer_text t names emissions came step answer.Known = step_line step (codes "known" ∷ [])
-answer_text t names emissions came step (answer.Paths paths) = paths_text step paths
-answer_text t names emissions came step (answer.Sent emission ts) =
+-- emitted their bytes by the emissions' numbers; `came` are the bytes that came in, and `notes` those of the k-th pass.
+unfoldable pub answer_text : Network → (ℕ → HopName) → (ℕ → List ℕ) → List ℕ → List Noted → ℕ → Answer → List ℕ
+answer_text t names emissions came notes step answer.Moment = []
+answer_text t names emissions came notes step (answer.Issued number) = step_line step (issue_words t number (names number))
+answer_text t names emissions came notes step answer.Fetched = step_line step (codes "fetched" ∷ [])
+answer_text t names emissions came notes step answer.Known = step_line step (codes "known" ∷ [])
+answer_text t names emissions came notes step (answer.Paths paths) = paths_text step paths
+answer_text t names emissions came notes step (answer.Sent emission ts) =
     step_line step (codes "sent" ∷ decimal emission ∷ decimal ts ∷ bytes_text (emissions emission) ∷ [])
-answer_text t names emissions came step (answer.Passed passed) =
-    passed_text t step came (emissions passed.emission) passed
-answer_text t names emissions came step (answer.Carried passes) = carried_text t emissions step came passes
-answer_text t names emissions came step answer.Revealed = step_line step (codes "revealed" ∷ [])
-answer_text t names emissions came step (answer.Rolled generation) =
+answer_text t names emissions came notes step (answer.Passed passed) =
+    passed_text t step came (emissions passed.emission) (noted_of notes 0) passed
+answer_text t names emissions came notes step (answer.Carried passes) = carried_text t emissions step came notes 0 passes
+answer_text t names emissions came notes step answer.Revealed = step_line step (codes "revealed" ∷ [])
+answer_text t names emissions came notes step (answer.Rolled generation) =
     step_line step (codes "rolled" ∷ decimal generation ∷ [])
-answer_text t names emissions came step (answer.Refused refusal) = step_line step (refusal_words refusal)
+answer_text t names emissions came notes step (answer.Refused refusal) = step_line step (refusal_words refusal)
 
 -- the bytes of an emission, none where it isn't there
 unfoldable pub emission_bytes : List Emission → ℕ → List ℕ

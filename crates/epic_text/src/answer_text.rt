@@ -11,9 +11,9 @@ ghost use Rattle.epic_text.specs.Refusals as refusals;
 ghost use Rattle.epic_text.specs.Report as spec;
 ghost use Rattle.epic_text.specs.Report.{IsKnownHop, IsToldAnswer, emission_bytes, issued_name};
 
-use crate::carried_text::{emission_bytes, print_carried};
+use crate::carried_text::{emission_bytes, print_carried, print_noted};
 use crate::line::{allocated, append, bytes_text, print_line};
-use crate::passed_text::print_passed;
+use crate::notes::Notes;
 use crate::refusal_words::refusal_words;
 use epic_fields::sigma;
 use epic_ledger::Ledger;
@@ -174,8 +174,9 @@ fn print_issue(
 
 /// Appends the lines of an answer.
 ///
-/// `ledger` is as it is after the step, and `came` are the bytes that the step's command brought to
-/// a router or a host (`bytes_in`). On an error `to` is as it was.
+/// `ledger` is as it is after the step, `came` are the bytes that the step's command brought to a
+/// router or a host (`bytes_in`), and `notes` are those of its passes, in order, as far as they go.
+/// On an error `to` is as it was.
 #[tactic(auto, unfolding(crate::specs::Report::answer_text))]
 pub fn print_answer(
     to: &mut Vec<u8>,
@@ -183,6 +184,7 @@ pub fn print_answer(
     topo: &Topology,
     ledger: &Ledger,
     came: &[u8],
+    notes: &[Notes],
     answer: &Answer,
 ) -> Result<(), OutOfMemory>
     requires { IsToldAnswer topo.now ledger.now.history came.now answer.now }
@@ -190,7 +192,7 @@ pub fn print_answer(
         (spec.answer_text topo.now
         (issued_name (issues_in ledger.now.history.events))
         (emission_bytes ledger.now.history.emissions)
-        came.now step answer.now)
+        came.now notes.now step answer.now)
         result }
 {
     match answer {
@@ -205,10 +207,10 @@ pub fn print_answer(
         }
         Answer::Passed(passed) => {
             let emitted = emission_bytes(ledger, passed.emission);
-            print_passed(to, step, topo, came, emitted, passed)
+            print_noted(to, step, topo, came, emitted, notes, 0, passed)
         }
         Answer::Carried(passes) => {
-            print_carried(to, step, topo, ledger, came, passes.as_slice())
+            print_carried(to, step, topo, ledger, came, notes, passes.as_slice())
         }
         Answer::Revealed => print_line(to, step, b"revealed"),
         Answer::Rolled { generation } => print_rolled(to, step, *generation),

@@ -3,9 +3,11 @@
 ghost use Rattle.std.specs.Prelude.{◌≡◌};
 ghost use Rattle.epic_text.specs.Line.{Prints};
 ghost use Rattle.epic_text.specs.Report as spec;
-ghost use Rattle.epic_text.specs.Report.{IsToldCarry, emission_bytes};
+ghost use Rattle.epic_text.specs.Notes.{noted_of};
+ghost use Rattle.epic_text.specs.Report.{IsToldCarry, IsToldPass, emission_bytes};
 
 use crate::line::append;
+use crate::notes::Notes;
 use crate::passed_text::print_passed;
 use epic_ledger::Ledger;
 use epic_num::{Command, OutOfMemory, Passed};
@@ -36,7 +38,32 @@ pub fn bytes_in<'a>(ledger: &'a Ledger, command: &'a Command) -> &'a [u8]
     }
 }
 
-/// Appends the lines of passes one after the other.
+/// Appends the lines of a pass with the notes of the k-th. On an error `to` is as it was.
+pub(crate) fn print_noted(
+    to: &mut Vec<u8>,
+    step: u32,
+    topo: &Topology,
+    came: &[u8],
+    emitted: &[u8],
+    notes: &[Notes],
+    k: usize,
+    passed: &Passed,
+) -> Result<(), OutOfMemory>
+    requires { IsToldPass topo.now came.now passed.now }
+    ensures { Prints to.old.items to.new.items
+        (spec.passed_text topo.now step came.now emitted.now (noted_of notes.now k) passed.now)
+        result }
+{
+    match notes.get(k) {
+        Some(notes) => print_passed(to, step, topo, came, emitted, notes, passed),
+        None => {
+            let none = Notes::new(*to.allocator());
+            print_passed(to, step, topo, came, emitted, &none, passed)
+        }
+    }
+}
+
+/// Appends the lines of passes one after the other, with the notes of each.
 ///
 /// The first is of the bytes that came in, and each other of the bytes that the pass before it
 /// emitted. On an error `to` is as it was.
@@ -46,19 +73,20 @@ pub fn print_carried(
     topo: &Topology,
     ledger: &Ledger,
     came: &[u8],
+    notes: &[Notes],
     passes: &[Passed],
 ) -> Result<(), OutOfMemory>
     requires { IsToldCarry topo.now (emission_bytes ledger.now.history.emissions) came.now passes.now }
     ensures { Prints to.old.items to.new.items
         (spec.carried_text topo.now (emission_bytes ledger.now.history.emissions)
-        step came.now passes.now)
+        step came.now notes.now 0 passes.now)
         result }
 {
     let mut lines = Vec::new(*to.allocator());
     let mut next = came;
-    for passed in passes {
+    for (k, passed) in passes.iter().enumerate() {
         let emitted = emission_bytes(ledger, passed.emission);
-        print_passed(&mut lines, step, topo, next, emitted, passed)?;
+        print_noted(&mut lines, step, topo, next, emitted, notes, k, passed)?;
         next = emitted;
     }
     append(to, &lines)

@@ -12,6 +12,7 @@ ghost use Rattle.epic_text.specs.Report.{IsToldPass};
 ghost use Rattle.epic_text.specs.VerdictText.{IsTellable};
 
 use crate::line::{allocated, append, bytes_text, print_line};
+use crate::notes::Notes;
 use crate::refusal_words::{arrival_words, turn_words};
 use crate::verdict_text::{print_dest, print_hop};
 use epic_layout::shape_of;
@@ -89,23 +90,26 @@ pub fn print_pass(
     print_line(to, step, words.as_bytes())
 }
 
-/// Appends a line for each handled hop, the first of which is the packet's current hop.
+/// Appends a line for each handled hop, the first of which is the packet's current hop, and its
+/// note behind it.
 fn print_hops(
     to: &mut Vec<u8>,
     step: u32,
     topo: &Topology,
     packet: &PacketRef<'_>,
+    notes: &Notes,
     verdicts: &[Verdict],
 ) -> Result<(), OutOfMemory>
     requires { All (IsTellable topo.now packet.now) verdicts.now }
     ensures { Prints to.old.items to.new.items
-        (spec.hop_lines topo.now step packet.now packet.now.current verdicts.now)
+        (spec.hop_lines topo.now step packet.now notes.now 0 verdicts.now)
         result }
 {
     let first = usize::from(packet.current());
     let mut lines = Vec::new(*to.allocator());
     for (i, verdict) in verdicts.iter().enumerate() {
         print_hop(&mut lines, step, topo, packet, first + i, verdict)?;
+        append(&mut lines, notes.behind(i))?;
     }
     append(to, &lines)
 }
@@ -136,13 +140,14 @@ fn print_verdicts(
     step: u32,
     topo: &Topology,
     came: &[u8],
+    notes: &Notes,
     outcome: &PassResult,
     verdicts: &[Verdict],
 ) -> Result<(), OutOfMemory>
     requires packet { 0 < length verdicts.now → fault is_first_byte came.now ≡ None }
     requires verdicts { All (IsTellable topo.now (parse came.now)) verdicts.now }
     ensures { Prints to.old.items to.new.items
-        (spec.verdict_lines topo.now step (parse came.now) outcome.now verdicts.now)
+        (spec.verdict_lines topo.now step (parse came.now) notes.now outcome.now verdicts.now)
         result }
 {
     if verdicts.is_empty() {
@@ -150,14 +155,14 @@ fn print_verdicts(
     }
     let packet = PacketRef::of(came, shape_of(came));
     match outcome {
-        PassResult::Turned(_) => print_hops(to, step, topo, &packet, verdicts),
+        PassResult::Turned(_) => print_hops(to, step, topo, &packet, notes, verdicts),
         PassResult::Arrived(_) => print_dests(to, step, topo, &packet, verdicts),
         PassResult::Full => Ok(()),
     }
 }
 
 /// Appends the lines of a pass: what became of the bytes that came in, with the bytes of the emission that it made, and
-/// the verdicts on what was accepted. On an error `to` is as it was.
+/// the verdicts on what was accepted, with the notes of these. On an error `to` is as it was.
 #[tactic(auto, unfolding(crate::specs::Report::passed_text))]
 pub fn print_passed(
     to: &mut Vec<u8>,
@@ -165,11 +170,12 @@ pub fn print_passed(
     topo: &Topology,
     came: &[u8],
     emitted: &[u8],
+    notes: &Notes,
     passed: &Passed,
 ) -> Result<(), OutOfMemory>
     requires { IsToldPass topo.now came.now passed.now }
     ensures { Prints to.old.items to.new.items
-        (spec.passed_text topo.now step came.now emitted.now passed.now)
+        (spec.passed_text topo.now step came.now emitted.now notes.now passed.now)
         result }
 {
     let mut lines = Vec::new(*to.allocator());
@@ -179,9 +185,11 @@ pub fn print_passed(
         step,
         topo,
         came,
+        notes,
         &passed.result,
         &passed.verdicts,
     )?;
+    append(&mut lines, notes.last())?;
     append(to, &lines)
 }
 

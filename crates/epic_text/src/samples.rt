@@ -1,8 +1,10 @@
 //! A topology, hops and packets for tests.
 
-use epic_num::{AsId, Body, HopName};
+use crate::{ScriptError, ScriptKind, read_script};
+use epic_num::{AsId, Body, Bytes, Command, HopName};
 use epic_topo::{Topology, read_topology};
 use std::alloc::Global;
+use std::fmt::Debug;
 use std::process::Abort;
 use std::test::Fail;
 
@@ -66,4 +68,49 @@ pub const NEVER_ISSUED: &str =
 pub fn topology(rt: &impl Abort, alloc: Global) -> Result<Topology, Fail> {
     assert!(rt; TEXT.len() <= 1_048_576);
     Ok(read_topology(alloc, TEXT)?)
+}
+
+/// Stops the test where a value isn't the one that is wanted.
+pub fn same<T: PartialEq + Debug>(rt: &impl Abort, case: &str, value: &T, wanted: &T) {
+    assert_eq!(rt; *value, *wanted, "{case}");
+}
+
+/// Stops the test where a text isn't the one that is wanted.
+pub fn reads(rt: &impl Abort, text: &[u8], wanted: &str) {
+    same(rt, wanted, &text, &wanted.as_bytes());
+}
+
+/// The bytes of digits.
+pub fn decoded(alloc: Global, digits: &str) -> Result<Vec<u8>, Fail> {
+    Ok(hex::decode(alloc, digits)?)
+}
+
+/// These bytes, owned.
+pub fn bytes(alloc: Global, bytes: &[u8]) -> Result<Bytes, Fail> {
+    Ok(Bytes::from_vec(Vec::from_slice(alloc, bytes)?))
+}
+
+/// Stops the test where a short text is no script with this fault at this line.
+pub fn refuses(rt: &impl Abort, alloc: Global, text: &[u8], line: u32, kind: ScriptKind) {
+    assert!(rt; text.len() <= 300);
+    let refused = read_script::<Command>(alloc, text).err();
+    same(
+        rt,
+        "refused",
+        &refused,
+        &Some(ScriptError::Bad { line, kind }),
+    );
+}
+
+/// Stops the test where a short text has other commands than these.
+pub fn commands_are(
+    rt: &impl Abort,
+    alloc: Global,
+    text: &[u8],
+    wanted: &[Command],
+) -> Result<(), Fail> {
+    assert!(rt; text.len() <= 300);
+    let commands = read_script::<Command>(alloc, text)?;
+    same(rt, "commands", &commands.as_slice(), &wanted);
+    Ok(())
 }

@@ -1,6 +1,7 @@
 //! The last line.
 
 use super::*;
+use crate::samples::reads;
 use std::test::Fail;
 
 #[test]
@@ -16,6 +17,6 @@ fn last_lines(rt: HostRuntime) -> Result<(), Fail> {
     let mut to = Vec::new(rt.alloc());
     print_end(&mut to, &counts)?;
     let line = "end 5 accepted 3 proved 1 opened 2 forged 0 collided 0 unclaimed 1\n";
-    assert_eq!(rt; to.as_slice(), line.as_bytes());
+    reads(&rt, to.as_slice(), line);
     Ok(())
 }

@@ -1,10 +1,20 @@
 //! The lines of passes.
 
 use super::*;
-use crate::samples::{CAME, LEAF, WENT, topology};
+use crate::samples::{CAME, LEAF, WENT, decoded, reads, topology};
 use arrayvec::ArrayVec;
 use epic_num::{Check, DestCheck, LayoutError, Place};
 use std::test::Fail;
+
+/// A router's refusal at hop 5.
+fn turn(check: Check) -> PassResult {
+    PassResult::Turned(Turn::Refused { check, hop: 5 })
+}
+
+/// A host's refusal.
+fn arrival(check: DestCheck) -> PassResult {
+    PassResult::Arrived(Arrival::Refused(check))
+}
 
 /// The first line of a pass.
 fn pass(alloc: Global, outcome: PassResult) -> Result<Vec<u8>, Fail> {
@@ -15,8 +25,6 @@ fn pass(alloc: Global, outcome: PassResult) -> Result<Vec<u8>, Fail> {
 
 #[test]
 fn lines_of_refused_passes(rt: HostRuntime) -> Result<(), Fail> {
-    let turn = |check| PassResult::Turned(Turn::Refused { check, hop: 5 });
-    let arrival = |check| PassResult::Arrived(Arrival::Refused(check));
     for (outcome, want) in [
         (
             turn(Check::Layout(LayoutError::SegmentCount)),
@@ -61,7 +69,7 @@ fn lines_of_refused_passes(rt: HostRuntime) -> Result<(), Fail> {
         (PassResult::Arrived(Arrival::Unchecked), "12 unchecked\n"),
         (PassResult::Full, "12 refused full\n"),
     ] {
-        assert_eq!(rt; pass(rt.alloc(), outcome)?.as_slice(), want.as_bytes());
+        reads(&rt, pass(rt.alloc(), outcome)?.as_slice(), want);
     }
     Ok(())
 }
@@ -70,8 +78,8 @@ fn lines_of_refused_passes(rt: HostRuntime) -> Result<(), Fail> {
 fn lines_of_a_pass(rt: HostRuntime) -> Result<(), Fail> {
     let alloc = rt.alloc();
     let topo = topology(&rt, alloc)?;
-    let came = hex::decode(alloc, CAME)?;
-    let went = hex::decode(alloc, WENT)?;
+    let came = decoded(alloc, CAME)?;
+    let went = decoded(alloc, WENT)?;
     let mut verdicts = ArrayVec::new();
     verdicts.push(Verdict::Proved { issue: 3, send: 0 });
     let passed = Passed {
@@ -89,11 +97,12 @@ fn lines_of_a_pass(rt: HostRuntime) -> Result<(), Fail> {
     };
     let mut to = Vec::new(alloc);
     assert!(rt; PacketRef::look(&came).is_ok());
-    print_passed(&mut to, 5, &topo, &came, &went, &passed)?;
+    let notes = Notes::new(alloc);
+    print_passed(&mut to, 5, &topo, &came, &went, &notes, &passed)?;
     let lines =
         "5 forward 1 1 e0000060000001010001ff00000001120001ff000000011000000001000000030000000000\
             000000010300006553f1003f00010000f02fdcef5be861973095d23f000100025fc8567cf27d6859545a3e3f\
             000000020000000000000000c11c94\n5 hop 0 proved 3\n";
-    assert_eq!(rt; to.as_slice(), lines.as_bytes());
+    reads(&rt, to.as_slice(), lines);
     Ok(())
 }

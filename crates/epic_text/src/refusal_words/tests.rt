@@ -2,7 +2,7 @@
 
 use super::*;
 use crate::print_refusal;
-use crate::samples::LEAF;
+use crate::samples::{LEAF, reads};
 use epic_num::NoKey;
 use std::test::Fail;
 
@@ -86,7 +86,7 @@ fn lines_of_refusals(rt: HostRuntime) -> Result<(), Fail> {
             "7 refused no-key 1-ff00:0:112 19675\n",
         ),
     ] {
-        assert_eq!(rt; refusal(rt.alloc(), cause)?.as_slice(), want.as_bytes());
+        reads(&rt, refusal(rt.alloc(), cause)?.as_slice(), want);
     }
     Ok(())
 }

@@ -1,7 +1,7 @@
 //! The words after `send`, `arrive`, `pass`, `carry`, `reveal` and `roll`, in tables.
 
 use super::*;
-use crate::{ScriptError, read_script};
+use crate::samples::{bytes, commands_are, refuses};
 use arrayvec::ArrayVec;
 use epic_num::{AsId, Bytes, Holder, HostId, Level};
 use std::test::Fail;
@@ -10,9 +10,13 @@ const FIRST: AsId = AsId(0x0001_0000_0000_0001);
 
 const LEAF: AsId = AsId(0x0001_ff00_0000_0112);
 
+/// The fault of a word.
+fn bad(word: u32) -> ScriptKind {
+    ScriptKind::BadWord { word }
+}
+
 #[test]
 fn words_that_are_refused(rt: HostRuntime) {
-    let bad = |word| ScriptKind::BadWord { word };
     let cases: [(&[u8], ScriptKind); 29] = [
         (b"send 4 1-1,1 1-1,2 1 -", bad(2)),
         (b"send 1w 1-1,1 1-1,2 1 -", bad(2)),
@@ -45,10 +49,26 @@ fn words_that_are_refused(rt: HostRuntime) {
         (b"Roll 1-1", ScriptKind::UnknownVerb),
     ];
     for (text, kind) in cases {
-        assert!(rt; text.len() <= 100);
-        let refused = read_script::<Command>(rt.alloc(), text).err();
-        assert_eq!(rt; refused, Some(ScriptError::Bad { line: 1, kind }));
+        refuses(&rt, rt.alloc(), text, 1, kind);
     }
+}
+
+/// The send of no bytes over the issue 0, of this version and level.
+fn send(alloc: Global, version: u8, level: Level) -> Result<Command, Fail> {
+    Ok(Command::Send {
+        version,
+        level,
+        src: HostId {
+            asn: FIRST,
+            host: 1,
+        },
+        dst: HostId {
+            asn: FIRST,
+            host: 2,
+        },
+        segments: ArrayVec::try_from([0].as_slice())?,
+        payload: Bytes::from_vec(Vec::new(alloc)),
+    })
 }
 
 #[test]
@@ -62,26 +82,8 @@ fn levels_of_sends(rt: HostRuntime) -> Result<(), Fail> {
         (b"send 3w 1-1,1 1-1,2 0 -", 2, Level::L3),
     ];
     for (text, version, level) in cases {
-        assert!(rt; text.len() <= 100);
-        let wanted = Command::Send {
-            version,
-            level,
-            src: HostId {
-                asn: FIRST,
-                host: 1,
-            },
-            dst: HostId {
-                asn: FIRST,
-                host: 2,
-            },
-            segments: ArrayVec::try_from([0].as_slice())?,
-            payload: Bytes::from_vec(Vec::new(rt.alloc())),
-        };
-        let commands = read_script::<Command>(rt.alloc(), text)?;
-        assert_eq!(rt; commands.len(), 1);
-        for command in commands.iter() {
-            assert!(rt; *command == wanted);
-        }
+        let wanted = [send(rt.alloc(), version, level)?];
+        commands_are(&rt, rt.alloc(), text, &wanted)?;
     }
     Ok(())
 }
@@ -95,6 +97,9 @@ fn commands_of_a_script(rt: HostRuntime) -> Result<(), Fail> {
         asn: FIRST,
         host: 7,
     };
+    let segments = ArrayVec::try_from([3, 5, 4_294_967_295].as_slice())?;
+    let hello = bytes(alloc, b"hello")?;
+    let one = bytes(alloc, &[0xab])?;
     let wanted = [
         Command::Send {
             version: 1,
@@ -104,13 +109,10 @@ fn commands_of_a_script(rt: HostRuntime) -> Result<(), Fail> {
                 asn: FIRST,
                 host: 4_294_967_295,
             },
-            segments: ArrayVec::try_from([3, 5, 4_294_967_295].as_slice())?,
-            payload: Bytes::from_vec(Vec::from_slice(alloc, b"hello")?),
+            segments,
+            payload: hello,
         },
-        Command::Arrive {
-            host,
-            bytes: Bytes::from_vec(Vec::from_slice(alloc, &[0xab])?),
-        },
+        Command::Arrive { host, bytes: one },
         Command::Pass { emission: 0 },
         Command::Carry {
             emission: 4_294_967_295,
@@ -123,10 +125,5 @@ fn commands_of_a_script(rt: HostRuntime) -> Result<(), Fail> {
         },
         Command::Roll { a: FIRST },
     ];
-    let commands = read_script::<Command>(alloc, text.as_slice())?;
-    assert_eq!(rt; commands.len(), wanted.len());
-    for (command, wanted) in commands.iter().zip(wanted.iter()) {
-        assert!(rt; command == wanted);
-    }
-    Ok(())
+    commands_are(&rt, alloc, text, &wanted)
 }

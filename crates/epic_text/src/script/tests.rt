@@ -1,14 +1,19 @@
 //! Scripts and their faults in tables.
 
 use super::*;
+use crate::samples::{bytes, commands_are, refuses};
 use epic_num::{AsId, Bytes, Command};
 use std::test::Fail;
 
 const LEAF: AsId = AsId(0x0001_ff00_0000_0112);
 
+/// The fault of a word.
+fn bad(word: u32) -> ScriptKind {
+    ScriptKind::BadWord { word }
+}
+
 #[test]
 fn scripts_that_are_refused(rt: HostRuntime) {
-    let bad = |word| ScriptKind::BadWord { word };
     let cases: [(&[u8], u32, ScriptKind); 26] = [
         (b"at 05", 1, bad(2)),
         (b"at +5", 1, bad(2)),
@@ -38,9 +43,7 @@ fn scripts_that_are_refused(rt: HostRuntime) {
         (b"turn 1-1 1 zz\nfly", 1, bad(4)),
     ];
     for (text, line, kind) in cases {
-        assert!(rt; text.len() <= 100);
-        let refused = read_script::<Command>(rt.alloc(), text).err();
-        assert_eq!(rt; refused, Some(ScriptError::Bad { line, kind }));
+        refuses(&rt, rt.alloc(), text, line, kind);
     }
 }
 
@@ -50,6 +53,7 @@ fn commands_of_a_script(rt: HostRuntime) -> Result<(), Fail> {
         b"#\t ok\r\n\r\n \t \n\tat\t 4294967295999999 \noriginate 1-1 65535 255\nextend 4294967295 0 0\n\
         fetch 1-1 1-ff00:0:112 18446744073709551615\npaths 1-1 1-2\nturn 1-1 1 AbCd\nturn 1-1 0 -\r";
     let a = AsId(0x0001_0000_0000_0001);
+    let two = bytes(rt.alloc(), &[0xab, 0xcd])?;
     let wanted = [
         Command::At {
             moment: 4_294_967_295_999_999,
@@ -76,7 +80,7 @@ fn commands_of_a_script(rt: HostRuntime) -> Result<(), Fail> {
         Command::Turn {
             a,
             iface: 1,
-            bytes: Bytes::from_vec(Vec::from_slice(rt.alloc(), &[0xab, 0xcd])?),
+            bytes: two,
         },
         Command::Turn {
             a,
@@ -84,10 +88,5 @@ fn commands_of_a_script(rt: HostRuntime) -> Result<(), Fail> {
             bytes: Bytes::from_vec(Vec::new(rt.alloc())),
         },
     ];
-    let commands = read_script::<Command>(rt.alloc(), text.as_slice())?;
-    assert_eq!(rt; commands.len(), wanted.len());
-    for (command, wanted) in commands.iter().zip(wanted.iter()) {
-        assert!(rt; command == wanted);
-    }
-    Ok(())
+    commands_are(&rt, rt.alloc(), text, &wanted)
 }
