@@ -1,5 +1,5 @@
 -- How commands end, from what their files led to and how their reports were written.
-use Rattle.std.proofs.Common.{◌≡◌, ◌⊎◌, ℕ, suc, ◌≤◌, ltb, Bool, List, [], ◌∷◌, Option, Some, None, Result, Ok, Err, Contains, count_by, refl, sym, ap, subst, ◌∙◌, inl, inr, arith}
+use Rattle.std.proofs.Common.{◌≡◌, ◌⊎◌, ℕ, suc, ◌≤◌, ltb, Bool, List, length, [], ◌∷◌, Option, Some, None, Result, Ok, Err, Contains, count_by, refl, sym, ap, subst, ◌∙◌, inl, inr, arith}
 use Rattle.std.specs.Global.{Vec}
 use Rattle.std.specs.List.{AllByRecursion}
 use Rattle.std.specs.Option.{option_to_list}
@@ -19,7 +19,7 @@ use Rattle.epic_app.specs.declared.end.End.TheVariants.{Done, BadWords, BadTopol
 use Rattle.epic_app.specs.declared.hop_file.HopCommand.{HopCommand}
 use Rattle.epic_app.specs.Acts.{World, world}
 use Rattle.epic_app.specs.Captures.{RecordsFit}
-use Rattle.epic_app.specs.Doing.{Progress, doing, gen_done, hop_done, on_commands, on_topology, run_by}
+use Rattle.epic_app.specs.Doing.{Progress, doing, gen_done, hop_done, on_commands, on_topology, run_with, showing}
 use Rattle.epic_app.specs.End.{Blames, EndsAs, HasCause, end_after}
 use Rattle.epic_app.specs.FilesRead.{IsEarly, Leads, follows}
 use Rattle.epic_app.specs.Generating.{gen_text, generated_steps}
@@ -234,7 +234,7 @@ run_refused_first r old new end keeps only same file nothing =
     let m = r.topology in
     let n = r.script in
     let rest = option_to_list r.capture in
-    let next : Network → Progress = λ t. on_commands n script_limit run_rule Unread (run_by r.capture (unread r.capture) r.save t) in
+    let next : Network → Progress = λ t. on_commands n script_limit run_rule Unread (run_with r (unread r.capture) t) in
     record {
       readings = file.reading ∷ Unread ∷ unread r.capture;
       are_read = (file.is_reading, (tt, unread_is r.capture old new));
@@ -287,11 +287,11 @@ module _ (r : RunRequest) (old mid late : World) (keeps : KeepsFiles old.content
       → Appends old.written late.written [] → EndsAs (Run r) old late end
   unfolding doing
   run_refused_second end script nothing =
-      let next : List Command → Progress = run_by r.capture (unread r.capture) r.save t in
+      let next : List Command → Progress = run_with r (unread r.capture) t in
       record {
         readings = file.reading ∷ script.reading ∷ unread r.capture;
         are_read = (reads_first (late.reads m) (omega arith), (reads_second script.reading (late.reads n) (omega arith) script.is_reading, unread_is r.capture old late));
-        cause = cause_by _ _ old late end (file.leads (λ t. on_commands n script_limit run_rule script.reading (run_by r.capture (unread r.capture) r.save t)) ∙ script.leads next)
+        cause = cause_by _ _ old late end (file.leads (λ t. on_commands n script_limit run_rule script.reading (run_with r (unread r.capture) t)) ∙ script.leads next)
             (early_cause {X = Vec Command} (λ v. next v.items) n (mid.reads n) (late.reads n) old late end script.early all_keeps nothing);
         blames = early_blames (Run r) n (mid.reads n) old late end script.early (second_of m n rest n refl) (later_by m n old.reads mid.reads first);
         fits = λ below. unread_fits r.capture;
@@ -305,11 +305,11 @@ module _ (r : RunRequest) (old mid late : World) (keeps : KeepsFiles old.content
   pub run_answered : (new : World) (commands : Vec Command) (end : End)
       → Leads mid.contents n (mid.reads n) (late.reads n) (on_commands n script_limit run_rule) (λ v. v.items) (Ok commands)
       → Appends old.written late.written [] → old.faults ≤ late.faults
-      → RunEnds r.capture r.save t commands.items late new end → EndsAs (Run r) old new end
+      → RunEnds r.capture r.save (showing r (length commands.items)) t commands.items late new end → EndsAs (Run r) old new end
   unfolding doing
   run_answered new commands end script nothing faults ended =
       let works : Works r.save old late = works_read r.save old late all_keeps faults (same_on ∙ same) in
-      let next : List Command → Progress = run_by r.capture ended.readings r.save t in
+      let next : List Command → Progress = run_with r ended.readings t in
       record {
         readings = file.reading ∷ script.reading ∷ ended.readings;
         are_read = (
@@ -320,7 +320,7 @@ module _ (r : RunRequest) (old mid late : World) (keeps : KeepsFiles old.content
           ),
         );
         cause = cause_by _ _ old new end
-            (file.leads (λ t. on_commands n script_limit run_rule script.reading (run_by r.capture ended.readings r.save t)) ∙ script.leads next)
+            (file.leads (λ t. on_commands n script_limit run_rule script.reading (run_with r ended.readings t)) ∙ script.leads next)
             (cause_read (next commands.items) old late new end (does_nothing old late all_keeps nothing) works ended.cause);
         blames = run_blames r old late new end ended.blames works all_later;
         fits = ended.fits;

@@ -1,4 +1,4 @@
--- No step takes an emission from the ledger.
+-- No step takes an emission from the ledger, or goes back in time.
 use Rattle.std.proofs.Common.{ℕ, zero, suc, ◌+◌, ◌≤◌, Bool, true, false, not, List, [], ◌∷◌, length, take, Option, None, Some, Ok, Err, arith, length-append}
 use Rattle.std.specs.Prelude.{◌==◌, nat_lt, if◌then◌else◌, Result}
 use Rattle.std.specs.Option.{option_map_or}
@@ -58,19 +58,22 @@ more_same h = omega arith
 more_both : (f g h : History) → IsMore f g → IsMore g h → IsMore f h
 more_both f g h first next = omega (arith, first, next)
 
--- and so the ledger after a step
+-- so the ledger after a step, which isn't earlier
 abbrev Grows : State → Stepped → Type 0
-Grows s n = IsMore s.history n.state.history
+Grows s n = IsMore s.history n.state.history × (s.moment ≤ n.state.moment)
+
+same : (s : State) → IsMore s.history s.history × (s.moment ≤ s.moment)
+same s = (more_same s.history, omega arith)
 
 -- ---- time, beacons, keys and paths
 
 at_grows : (s : State) (moment : ℕ) → Grows s (next_at s moment)
 unfolding next_at
-at_grows s moment = more_same s.history
+at_grows s moment = (more_same s.history, omega arith)
 
 issued_grows : (s : State) (told : Result Beacon BeaconError) → Grows s (issued s told)
-issued_grows s (Ok b) = more_same s.history
-issued_grows s (Err e) = more_same s.history
+issued_grows s (Ok b) = same s
+issued_grows s (Err e) = same s
 
 originate_grows : (t : Network) (s : State) (a : AsId) (out exp : ℕ)
     → Grows s (next_originate t s a out exp)
@@ -78,7 +81,7 @@ unfolding next_originate
 originate_grows t s a out exp =
     cond_both (not (has t a)) (refused s (UnknownAs a))
     (issued s (originated t (store_in t s.history) a out exp s.moment)) (Grows s)
-    (λ _. more_same s.history)
+    (λ _. same s)
     (λ _. issued_grows s (originated t (store_in t s.history) a out exp s.moment))
 
 extend_grows : (t : Network) (s : State) (parent out exp : ℕ)
@@ -100,10 +103,10 @@ fetch_grows t s source owner epoch =
         else if not b then refused s (UnknownAs owner)
         else if c then answered s Known
         else recorded s (event.Fetch (s.steps + 1) source owner epoch) Fetched)
-    by false b c = more_same s.history
-    by true false c = more_same s.history
-    by true true true = more_same s.history
-    by true true false = more_same s.history
+    by false b c = same s
+    by true false c = same s
+    by true true true = same s
+    by true true false = same s
 
 paths_grows : (t : Network) (s : State) (from to : AsId) → Grows s (next_paths t s from to)
 unfolding next_paths
@@ -114,12 +117,12 @@ paths_grows t s from to = by (has t from) (has t to)
         → Grows s
         (if not a then refused s (UnknownAs from) else if not b then refused s
         (UnknownAs to) else found s paths)
-    by false b paths = more_same s.history
-    by true false paths = more_same s.history
+    by false b paths = same s
+    by true false paths = same s
     by true true paths =
         cond_both (nat_lt most_paths (length paths)) (refused s TooManyPaths)
         (answered s (Paths paths)) (Grows s)
-        (λ _. more_same s.history) (λ _. more_same s.history)
+        (λ _. same s) (λ _. same s)
 
 -- ---- sends
 
@@ -142,8 +145,8 @@ emitted_grows s numbers p = by (nat_lt most_emitted (emitted s.history.emissions
           state = record s { steps = s.steps + 1; history = sent_at (s.steps + 1) s.history numbers p };
           passages = [];
         })
-    by true = more_same s.history
-    by false = sent_more s numbers p
+    by true = same s
+    by false = (sent_more s numbers p, omega arith)
 
 module _ (t : Network) (s : State) (version : ℕ) (level : Level) (src dst : HostId)
     (numbers : ArrayVec ℕ) (payload : List ℕ) where
@@ -151,17 +154,17 @@ module _ (t : Network) (s : State) (version : ℕ) (level : Level) (src dst : Ho
       → Grows s (sent_by t s version level src dst numbers payload legs told)
   sent_grows legs (Ok ts) = emitted_grows s numbers
       (sent_packet t legs version level src dst ts payload)
-  sent_grows legs (Err e) = more_same s.history
+  sent_grows legs (Err e) = same s
 
   path_grows : (told : Result (List Leg) PathError)
       → Grows s (over_path t s version level src dst numbers payload told)
   path_grows (Ok legs) = sent_grows legs (admission t s version level src dst payload legs)
-  path_grows (Err e) = more_same s.history
+  path_grows (Err e) = same s
 
   segments_grow : (told : Result (List Segment) ℕ)
       → Grows s (over_segments t s version level src dst numbers payload told)
   segments_grow (Ok all) = path_grows (joined src.asn all)
-  segments_grow (Err n) = more_same s.history
+  segments_grow (Err n) = same s
 
   send_grows : Grows s (next_send t s version level src dst numbers payload)
   unfolding next_send
@@ -172,8 +175,8 @@ module _ (t : Network) (s : State) (version : ℕ) (level : Level) (src dst : Ho
           else if not b then refused s (UnknownAs dst.asn)
           else over_segments t s version level src dst numbers payload
           (segments_of (beacons_in t (issues_in s.history.events)) numbers.items))
-      by false b = more_same s.history
-      by true false = more_same s.history
+      by false b = same s
+      by true false = same s
       by true true = segments_grow
           (segments_of (beacons_in t (issues_in s.history.events)) numbers.items)
 
@@ -221,21 +224,21 @@ pass_more t step now h (Host d) bytes =
 passing_grows : (t : Network) (s : State) (place : Place) (bytes : List ℕ)
     → Grows s (passing t s place bytes)
 unfolding passing
-passing_grows t s place bytes = pass_more t (s.steps + 1) s.moment s.history place bytes
+passing_grows t s place bytes = (pass_more t (s.steps + 1) s.moment s.history place bytes, omega arith)
 
 turn_grows : (t : Network) (s : State) (a : AsId) (iface : ℕ) (bytes : List ℕ)
     → Grows s (next_turn t s a iface bytes)
 unfolding next_turn
 turn_grows t s a iface bytes =
     cond_both (not (has t a)) (refused s (UnknownAs a)) (passing t s (Router a iface) bytes)
-    (Grows s) (λ _. more_same s.history) (λ _. passing_grows t s (Router a iface) bytes)
+    (Grows s) (λ _. same s) (λ _. passing_grows t s (Router a iface) bytes)
 
 arrive_grows : (t : Network) (s : State) (d : HostId) (bytes : List ℕ)
     → Grows s (next_arrive t s d bytes)
 unfolding next_arrive
 arrive_grows t s d bytes =
     cond_both (not (has t d.asn)) (refused s (UnknownAs d.asn)) (passing t s (Host d) bytes)
-    (Grows s) (λ _. more_same s.history) (λ _. passing_grows t s (Host d) bytes)
+    (Grows s) (λ _. same s) (λ _. passing_grows t s (Host d) bytes)
 
 pass_grows : (t : Network) (s : State) (number : ℕ) → Grows s (next_pass t s number)
 unfolding next_pass
@@ -244,7 +247,7 @@ pass_grows t s number = by (emission_at s.history.emissions number)
     by : (o : Option Emission)
         → Grows s
         (option_map_or (λ e. passing t s e.place e.bytes) o (refused s (UnknownEmission number)))
-    by None = more_same s.history
+    by None = same s
     by (Some x) = passing_grows t s x.place x.bytes
 
 passed_more : (t : Network) (step now : ℕ) (h : History) (number : ℕ)
@@ -276,8 +279,8 @@ carry_grows t s number = by (emission_at s.history.emissions number)
   where
     by : (o : Option Emission)
         → Grows s (option_map_or (λ e. carrying t s number) o (refused s (UnknownEmission number)))
-    by None = more_same s.history
-    by (Some x) = carried_more t (s.steps + 1) s.moment 33 s.history number
+    by None = same s
+    by (Some x) = (carried_more t (s.steps + 1) s.moment 33 s.history number, omega arith)
 
 -- ---- reveals and rolls
 
@@ -289,9 +292,9 @@ reveal_grows t s holder = by (has t (as_of holder)) (is_revealed (reveals_in s.h
         → Grows s (if not a then refused s (UnknownAs (as_of holder))
         else if b then answered s Known
         else recorded s (event.Reveal (s.steps + 1) holder) Revealed)
-    by false b = more_same s.history
-    by true true = more_same s.history
-    by true false = more_same s.history
+    by false b = same s
+    by true true = same s
+    by true false = same s
 
 roll_grows : (t : Network) (s : State) (a : AsId) → Grows s (next_roll t s a)
 unfolding next_roll
@@ -299,23 +302,29 @@ roll_grows t s a =
     let generation = rolls s.history.events a + 1 in
     cond_both (not (has t a)) (refused s (UnknownAs a))
     (recorded s (event.Roll (s.steps + 1) a generation) (Rolled generation)) (Grows s)
-    (λ _. more_same s.history) (λ _. more_same s.history)
+    (λ _. same s) (λ _. same s)
 
 -- ---- all
 
+steps_grow : (t : Network) (s : State) (c : Command) → Grows s (next t s c)
+unfolding next
+steps_grow t s (command.At moment) = at_grows s moment
+steps_grow t s (command.Originate a out exp) = originate_grows t s a out exp
+steps_grow t s (command.Extend parent out exp) = extend_grows t s parent out exp
+steps_grow t s (command.Fetch source owner epoch) = fetch_grows t s source owner epoch
+steps_grow t s (command.Paths from to) = paths_grows t s from to
+steps_grow t s (command.Send version level src dst segments payload) =
+    send_grows t s version level src dst segments payload
+steps_grow t s (command.Turn a iface bytes) = turn_grows t s a iface bytes
+steps_grow t s (command.Arrive host bytes) = arrive_grows t s host bytes
+steps_grow t s (command.Pass emission) = pass_grows t s emission
+steps_grow t s (command.Carry emission) = carry_grows t s emission
+steps_grow t s (command.Reveal holder) = reveal_grows t s holder
+steps_grow t s (command.Roll a) = roll_grows t s a
+
 pub emissions_grow : (t : Network) (s : State) (c : Command)
     → length s.history.emissions ≤ length (next t s c).state.history.emissions
-unfolding next
-emissions_grow t s (command.At moment) = at_grows s moment
-emissions_grow t s (command.Originate a out exp) = originate_grows t s a out exp
-emissions_grow t s (command.Extend parent out exp) = extend_grows t s parent out exp
-emissions_grow t s (command.Fetch source owner epoch) = fetch_grows t s source owner epoch
-emissions_grow t s (command.Paths from to) = paths_grows t s from to
-emissions_grow t s (command.Send version level src dst segments payload) =
-    send_grows t s version level src dst segments payload
-emissions_grow t s (command.Turn a iface bytes) = turn_grows t s a iface bytes
-emissions_grow t s (command.Arrive host bytes) = arrive_grows t s host bytes
-emissions_grow t s (command.Pass emission) = pass_grows t s emission
-emissions_grow t s (command.Carry emission) = carry_grows t s emission
-emissions_grow t s (command.Reveal holder) = reveal_grows t s holder
-emissions_grow t s (command.Roll a) = roll_grows t s a
+emissions_grow t s c = (steps_grow t s c).0
+
+pub moments_rise : (t : Network) (s : State) (c : Command) → s.moment ≤ (next t s c).state.moment
+moments_rise t s c = (steps_grow t s c).1

@@ -1,6 +1,6 @@
 -- The contract of the top call, from how a command ended and what was told.
 use Rattle.std.proofs.Common.{◌≡◌, ◌⊎◌, ℕ, ◌<◌, Bool, true, false, cond, bytes_eq, List, [], ◌∷◌, Option, Some, None, Result, Ok, Err, IsTrue, refl, sym, ap, subst, inl, inr, arith}
-use Rattle.std.specs.Prelude.{codes}
+use Rattle.std.specs.Prelude.{codes, option_and_then}
 use Rattle.hex.specs.Hex.{decode_sized}
 use Rattle.hex.specs.declared.error.FromHexError.{FromHexError}
 use Rattle.epic_words.specs.RunCommand.{is_refused, rows_in, run_command}
@@ -124,14 +124,12 @@ unshared_by false q r is same = subst IsUnshared (ap (the_run q) same) is
 
 unshared_run : (words : List (List ℕ)) (r : RunRequest) → run_of words ≡ Some (Run r) → IsUnshared r
 unfolding run_of
-unshared_run words r is = by (is_refused run_command words) is
+unshared_run words r is = by (is_refused run_command words) (run_request (rows_in run_command words)) is
   where
-    q : RunRequest
-    q = run_request (rows_in run_command words)
-
-    by : (b : Bool) → ◌≡◌ {A = Option Request} (cond b None (unless_shared q)) (Some (Run r)) → IsUnshared r
-    by true same = absurd (cc)
-    by false same = unshared_by (shares_files (Run q)) q r refl same
+    by : (b : Bool) (o : Option RunRequest) → ◌≡◌ {A = Option Request} (cond b None (option_and_then unless_shared o)) (Some (Run r)) → IsUnshared r
+    by true o same = absurd (cc)
+    by false None same = absurd (cc)
+    by false (Some q) same = unshared_by (shares_files (Run q)) q r refl same
 
 no_run : (name : List ℕ) (key : Result (List ℕ) FromHexError) (r : RunRequest) → hop_request name key ≡ Some (Run r) → ⊥
 no_run name (Ok key) r is = absurd (cc)

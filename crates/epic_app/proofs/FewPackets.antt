@@ -1,13 +1,13 @@
 -- The words ask for a limited number of packets.
 use Rattle.std.proofs.Common.{◌≡◌, ℕ, ◌≤◌, cond, List, [], ◌∷◌, Option, Some, None, Result, Ok, Err, refl, arith}
-use Rattle.std.specs.Prelude.{codes, bytes_eq, ⊤}
+use Rattle.std.specs.Prelude.{codes, bytes_eq, option_and_then, ⊤}
 use Rattle.std.proofs.lemmas.Bool.{cond_both}
 use Rattle.std.proofs.lemmas.Bool.Decides.{nat_tests}
 use Rattle.std.proofs.lemmas.Grind.{common_steps}
 use Rattle.hex.specs.Hex.{decode_sized}
 use Rattle.hex.specs.declared.error.FromHexError.{FromHexError}
 use Rattle.epic_num.specs.Names.{number_of, within}
-use Rattle.epic_words.specs.Request.{Request, Hop, Run, Gen, gen_of, gen_request, hop_of, hop_request, number_in, request_of, run_of, run_request, shares_files, unless_shared}
+use Rattle.epic_words.specs.Request.{Request, RunRequest, Hop, Run, Gen, gen_of, gen_request, hop_of, hop_request, number_in, request_of, run_of, run_request, shares_files, unless_shared}
 use Rattle.epic_words.specs.RunCommand.{is_refused, rows_in, run_command}
 
 -- at most so many packets, where it is `gen` that is asked for
@@ -28,12 +28,15 @@ few_hops (key ∷ []) = tt
 few_hops (key ∷ name ∷ []) = few_hop name (decode_sized key 16)
 few_hops (key ∷ name ∷ word ∷ words) = tt
 
+few_run : (o : Option RunRequest) → HasFew (option_and_then unless_shared o)
+few_run None = tt
+few_run (Some r) = cond_both (shares_files (Run r)) None (Some (Run r)) HasFew (λ f. tt) (λ f. tt)
+
 few_runs : (words : List (List ℕ)) → HasFew (run_of words)
 unfolding run_of
 few_runs words =
     let r = run_request (rows_in run_command words) in
-    cond_both (is_refused run_command words) None (unless_shared r) HasFew (λ e. tt)
-    (λ e. cond_both (shares_files (Run r)) None (Some (Run r)) HasFew (λ f. tt) (λ f. tt))
+    cond_both (is_refused run_command words) None (option_and_then unless_shared r) HasFew (λ e. tt) (λ e. few_run r)
 
 within_few : (o : Option ℕ) (n : ℕ) → within 1 100000 o ≡ Some n → n ≤ 100000
 within_few None n is = absurd (cc)

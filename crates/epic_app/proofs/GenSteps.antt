@@ -15,25 +15,26 @@ use Rattle.epic_model.specs.World.{Fits}
 use Rattle.epic_world.specs.Run.{done_by, run, run_from, state_after}
 use Rattle.epic_world.specs.Stepped.{IsPossible}
 use Rattle.epic_gen.specs.Script.{generated}
+use Rattle.epic_app.specs.Showing.{Showing}
+use Rattle.epic_app.specs.Along.{along}
 use Rattle.epic_app.specs.Captures.{shown}
-use Rattle.epic_app.specs.Generating.{digest_line, gen_text}
+use Rattle.epic_app.specs.Generating.{digest_line, gen_text, plainly}
 use Rattle.epic_app.specs.RunReport.{all_verdicts, has_alarm, run_text, step_text, steps_text}
+use Rattle.epic_app.proofs.AlongLaws.{along-last}
 use Rattle.epic_app.proofs.AllOf.{all_map}
 use Rattle.epic_app.proofs.GenClaims.{all_fit}
 use Rattle.epic_app.proofs.RunLemmas.{alarms, length-run_from, run_last}
 
 -- the report with one step more
-pub next_text : (script : ℕ) (t : Network) (cs : List Command) (i : ℕ) (d : Command) → i < length cs
-    → steps_text script t (run_from t start (take (i + 1) cs))
-    ≡ steps_text script t (run_from t start (take i cs)) ++ step_text script t (done_by t (state_after t start (take i cs)) (get_or cs i d))
+pub next_text : (show : Showing) (t : Network) (cs : List Command) (i : ℕ) (d : Command) → i < length cs
+    → steps_text show t (run_from t start (take (i + 1) cs))
+    ≡ steps_text show t (run_from t start (take i cs))
+    ++ step_text show t (run_from t start (take i cs)) (done_by t (state_after t start (take i cs)) (get_or cs i d))
 unfolding steps_text
-next_text script t cs i d within =
-    let front = run_from t start (take i cs) in
-    let step = done_by t (state_after t start (take i cs)) (get_or cs i d) in
-    ap (λ xs. flat_map (step_text script t) (run_from t start xs)) (take_more cs i d within)
-    ∙ (ap (flat_map (step_text script t)) (run_last t start (take i cs) (get_or cs i d))
-    ∙ (flat_map-append (step_text script t) front (step ∷ [])
-    ∙ ap (λ xs. flat_map (step_text script t) front ++ xs) (append-nil (step_text script t step))))
+next_text show t cs i d within =
+    ap (λ xs. along (step_text show t) [] (run_from t start xs)) (take_more cs i d within)
+    ∙ (ap (along (step_text show t) []) (run_last t start (take i cs) (get_or cs i d))
+    ∙ along-last (step_text show t) [] (run_from t start (take i cs)) (done_by t (state_after t start (take i cs)) (get_or cs i d)))
 
 -- a script's last step is shown under its own number
 shown_same : (n : ℕ) → shown n n ≡ n
@@ -42,7 +43,7 @@ shown_same n = grind (arith, nat_tests)
 
 -- the lines at the end, of a script of n commands
 pub gen_whole : (t : Network) (cs : List Command) (i n : ℕ) (k : Counts) (m : List ℕ) → length cs ≡ n → n ≤ i
-    → k ≡ counts_of 0 (all_verdicts (run_from t start (take i cs))) → m ≡ steps_text n t (run_from t start (take i cs))
+    → k ≡ counts_of 0 (all_verdicts (run_from t start (take i cs))) → m ≡ steps_text (plainly n) t (run_from t start (take i cs))
     → end_line (record k { steps = n }) ++ digest_line (m ++ end_line (record k { steps = n })) ≡ gen_text t (run t cs)
 unfolding gen_text run_text run
 gen_whole t cs i n k m long past counts message =
@@ -50,7 +51,7 @@ gen_whole t cs i n k m long past counts message =
     let steps = run_from t start cs in
     let many : n ≡ length steps = sym (length-run_from t start cs ∙ long) in
     let counted : k ≡ counts_of 0 (all_verdicts steps) = counts ∙ ap (λ xs. counts_of 0 (all_verdicts (run_from t start xs))) all in
-    let text : m ≡ steps_text (length steps) t steps = message ∙ (ap (λ xs. steps_text n t (run_from t start xs)) all ∙ ap (λ a. steps_text a t steps) many) in
+    let text : m ≡ steps_text (plainly (length steps)) t steps = message ∙ (ap (λ xs. steps_text (plainly n) t (run_from t start xs)) all ∙ ap (λ a. steps_text (plainly a) t steps) many) in
     let ended : end_line (record k { steps = n }) ≡ end_line (counts_of (length steps) (all_verdicts steps)) =
     ap (λ (c : Counts). end_line (record c { steps = n })) counted
     ∙ ap (λ a. end_line (counts_of a (all_verdicts steps))) many in

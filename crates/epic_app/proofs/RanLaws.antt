@@ -1,7 +1,9 @@
 -- Commands that a run does one after the other behind its script.
-use Rattle.std.proofs.Common.{◌≡◌, ℕ, ◌+◌, ◌-◌, ◌*◌, ◌/◌, ◌^◌, ◌≤◌, min, Result, Ok, Err, OnOk, List, [], ◌∷◌, ◌++◌, length, flat_map, Option, Some, None, Contains, refl, sym, ap, subst, ◌∙◌, append-nil, append_assoc, length-append, arith}
+use Rattle.std.proofs.Common.{◌≡◌, ℕ, ◌+◌, ◌-◌, ◌*◌, ◌/◌, ◌^◌, ◌≤◌, ◌||◌, min, Result, Ok, Err, OnOk, List, [], ◌∷◌, ◌++◌, length, flat_map, Option, Some, None, Contains, refl, sym, ap, subst, ◌∙◌, append-nil, append_assoc, length-append, arith}
 use Rattle.std.specs.Prelude.{IfErr}
+use Rattle.std.specs.List.{list_any}
 use Rattle.std.specs.Option.{option_map, option_to_list}
+use Rattle.std.proofs.lemmas.List.Folds.{list_any-append}
 use Rattle.std.proofs.lemmas.List.Concat.{flat_map-append}
 use Rattle.std.proofs.lemmas.List.Elements.{All-append, All-cons, All-nil}
 use Rattle.epic_world.proofs.Counted.{next_counts}
@@ -13,6 +15,7 @@ use Rattle.epic_feed.specs.Taking.{Takes}
 use Rattle.epic_ports.specs.Files.{Files, KeepsFiles}
 use Rattle.epic_ports.specs.declared.error.PortError.{PortError}
 use Rattle.epic_ports.specs.declared.error.PortError.TheVariants.{OutOfMemory}
+use Rattle.epic_topo.specs.Network.{Network}
 use Rattle.epic_text.specs.declared.counts.Counts.{Counts}
 use Rattle.epic_text.specs.Counts.{counted, total}
 use Rattle.epic_model.specs.State.{State}
@@ -26,16 +29,21 @@ use Rattle.epic_app.specs.declared.end.End.TheVariants as ends
 use Rattle.epic_ports.proofs.Appended.{Appends-none}
 use Rattle.epic_app.specs.Acts.{Act, World, Does, StopsAt, StopsBefore, world}
 use Rattle.epic_num.specs.declared.command.Command.TheVariants.{At}
+use Rattle.epic_app.specs.Along.{along}
 use Rattle.epic_app.specs.Captures.{due, records_commands, record_commands}
 use Rattle.epic_app.specs.Doing.{Progress, step_acts}
 use Rattle.epic_app.specs.End.{Decided, HasCause}
 use Rattle.epic_app.specs.Performing.{Blamed, OthersKeep, Stays, Stopped, Works}
 use Rattle.epic_app.specs.RunReport.{all_verdicts, verdicts_in}
 use Rattle.epic_app.specs.StepLines.{count_all}
-use Rattle.epic_app.specs.Taking.{Ran, StopsIn, acts_of, saved_by}
+use Rattle.epic_app.specs.Showing.{Showing}
+use Rattle.epic_app.specs.Noting.{offers_of, shows_alarm}
+use Rattle.epic_app.specs.Policed.{ArePoliced}
+use Rattle.epic_app.specs.Taking.{IsAfter, Ran, StopsIn, acts_of, saved_by}
 use Rattle.epic_app.proofs.ActFiles.{does_both, does_nothing}
 use Rattle.epic_app.proofs.Acting.{blamed_in, fails_in, others_both, others_kept, stopped_later, stopped_more}
-use Rattle.epic_app.proofs.RunLemmas.{run_from-append, state_after-append}
+use Rattle.epic_app.proofs.AlongLaws.{along-append}
+use Rattle.epic_app.proofs.RunLemmas.{or_assoc, or_none, run_from-append, state_after-append}
 use Rattle.epic_app.proofs.StepWriting.{keeps_all, nothing_done}
 
 -- ---- what stays
@@ -119,13 +127,15 @@ pub ran_none : (x : Records) (w : World) → Ran x x [] w w
 unfolding state_after run_from all_verdicts count_all
 ran_none x w = record {
   network = refl;
-  script = refl;
+  show = refl;
   save = refl;
   state = refl;
   steps = omega arith;
   counts = refl;
   few = omega arith;
-  acts = nothing_done w;
+  alarm = sym (or_none x.tally.alarm);
+  police = λ before after. subst (IsAfter x) (sym (append-nil before)) after;
+  acts = λ before after. nothing_done w;
   works = works_read (saved_by x) w w (keeps_all w.contents) (omega arith) refl;
   fits = All-nil Fits;
 }
@@ -135,13 +145,16 @@ pub ran_read : (x y : Records) (cs : List Command) (u v w : World) → Ran x y c
     → Does [] v w → Ran x y cs u w
 ran_read x y cs u v w ran keeps later writes nothing = record {
   network = ran.network;
-  script = ran.script;
+  show = ran.show;
   save = ran.save;
   state = ran.state;
   steps = ran.steps;
   counts = ran.counts;
   few = ran.few;
-  acts = subst (λ (acts : List Act). Does acts u w) (append-nil (acts_of x cs)) (does_both (acts_of x cs) [] u v w ran.acts nothing);
+  alarm = ran.alarm;
+  police = ran.police;
+  acts = λ before after. subst (λ (acts : List Act). Does acts u w) (append-nil (acts_of x before cs))
+      (does_both (acts_of x before cs) [] u v w (ran.acts before after) nothing);
   works = works_both (saved_by x) u v w ran.works (works_read (saved_by x) v w keeps later writes);
   fits = ran.fits;
 }
@@ -150,38 +163,71 @@ module _ (x y : Records) (cs : List Command) (u v : World) (ran : Ran x y cs u v
   same_save : saved_by y ≡ saved_by x
   same_save = ap (option_map (λ name. name.now)) ran.save
 
+  -- the steps of these commands
+  abbrev steps_done : List Done
+  steps_done = run_from x.world.network x.world.state cs
+
   -- the acts of these commands and of others behind them
-  pub acts_both : (ds : List Command) → acts_of x (cs ++ ds) ≡ acts_of x cs ++ acts_of y ds
-  acts_both ds =
-      let f = step_acts (saved_by x) x.script x.world.network in
-      ap (flat_map f) (run_from-append x.world.network x.world.state cs ds)
-      ∙ (flat_map-append f (run_from x.world.network x.world.state cs) (run_from x.world.network (state_after x.world.network x.world.state cs) ds)
-      ∙ sym (λ k. acts_of x cs ++ flat_map (step_acts (same_save k) (ran.script k) (ran.network k)) (run_from (ran.network k) (ran.state k) ds)))
+  pub acts_both : (before : List Done) (ds : List Command) → acts_of x before (cs ++ ds) ≡ acts_of x before cs ++ acts_of y (before ++ steps_done) ds
+  acts_both before ds =
+      let f = step_acts (saved_by x) x.show x.world.network in
+      ap (along f before) (run_from-append x.world.network x.world.state cs ds)
+      ∙ (along-append f before steps_done (run_from x.world.network (state_after x.world.network x.world.state cs) ds)
+      ∙ sym (λ k. acts_of x before cs
+      ++ along (step_acts (same_save k) (ran.show k) (ran.network k)) (before ++ steps_done) (run_from (ran.network k) (ran.state k) ds)))
 
   counts_both : (ds : List Command)
-      → count_all y.counts (all_verdicts (run_from y.world.network y.world.state ds)) ≡ count_all x.counts (all_verdicts (run_from x.world.network x.world.state (cs ++ ds)))
+      → count_all y.tally.counts (all_verdicts (run_from y.world.network y.world.state ds)) ≡ count_all x.tally.counts (all_verdicts (run_from x.world.network x.world.state (cs ++ ds)))
   counts_both ds =
       let t = x.world.network in
       let s = x.world.state in
       let front = run_from t s cs in
       let back = run_from t (state_after t s cs) ds in
       (λ k. count_all (ran.counts k) (all_verdicts (run_from (ran.network k) (ran.state k) ds)))
-      ∙ (count_all-both x.counts (all_verdicts front) (all_verdicts back)
-      ∙ ap (count_all x.counts) (sym (ap all_verdicts (run_from-append t s cs ds) ∙ verdicts-append front back)))
+      ∙ (count_all-both x.tally.counts (all_verdicts front) (all_verdicts back)
+      ∙ ap (count_all x.tally.counts) (sym (ap all_verdicts (run_from-append t s cs ds) ∙ verdicts-append front back)))
+
+  alarm_both : (ds : List Command)
+      → y.tally.alarm || list_any (shows_alarm y.show y.world.network) (run_from y.world.network y.world.state ds)
+      ≡ x.tally.alarm || list_any (shows_alarm x.show x.world.network) (run_from x.world.network x.world.state (cs ++ ds))
+  alarm_both ds =
+      let t = x.world.network in
+      let s = x.world.state in
+      let f = shows_alarm x.show t in
+      let front = run_from t s cs in
+      let back = run_from t (state_after t s cs) ds in
+      (λ k. ran.alarm k || list_any (shows_alarm (ran.show k) (ran.network k)) (run_from (ran.network k) (ran.state k) ds))
+      ∙ (sym (or_assoc x.tally.alarm (list_any f front) (list_any f back))
+      ∙ ap (λ b. x.tally.alarm || b) (sym (ap (list_any f) (run_from-append t s cs ds) ∙ list_any-append f front back)))
+
+  -- what follows these steps follows those of all commands
+  after_both : (z : Records) (before : List Done) (ds : List Command)
+      → IsAfter z ((before ++ steps_done) ++ run_from y.world.network y.world.state ds)
+      → IsAfter z (before ++ run_from x.world.network x.world.state (cs ++ ds))
+  after_both z before ds after =
+      let back = run_from x.world.network (state_after x.world.network x.world.state cs) ds in
+      let steps : (before ++ steps_done) ++ run_from y.world.network y.world.state ds ≡ before ++ run_from x.world.network x.world.state (cs ++ ds) =
+      (λ k. (before ++ steps_done) ++ run_from (ran.network k) (ran.state k) ds)
+      ∙ (append_assoc before steps_done back
+      ∙ ap (λ more. before ++ more) (sym (run_from-append x.world.network x.world.state cs ds))) in
+      subst (IsAfter z) steps after
 
   pub ran_both : (z : Records) (ds : List Command) (w : World) → Ran y z ds v w → Ran x z (cs ++ ds) u w
   ran_both z ds w then_ran =
       let works : Works (saved_by x) v w = subst (λ (save : Option (List ℕ)). Works save v w) same_save then_ran.works in
-      let acts : Does (acts_of x cs ++ acts_of y ds) u w = does_both (acts_of x cs) (acts_of y ds) u v w ran.acts then_ran.acts in
       record {
         network = then_ran.network ∙ ran.network;
-        script = then_ran.script ∙ ran.script;
+        show = then_ran.show ∙ ran.show;
         save = then_ran.save ∙ ran.save;
         state = then_ran.state ∙ ((λ k. state_after (ran.network k) (ran.state k) ds) ∙ sym (state_after-append x.world.network x.world.state cs ds));
         steps = omega (arith, ran.steps, then_ran.steps, length-append cs ds);
         counts = then_ran.counts ∙ counts_both ds;
         few = omega (arith, ran.few, then_ran.few, length-append cs ds);
-        acts = subst (λ (a : List Act). Does a u w) (sym (acts_both ds)) acts;
+        alarm = then_ran.alarm ∙ alarm_both ds;
+        police = λ before after. after_both z before ds (then_ran.police (before ++ steps_done) (ran.police before after));
+        acts = λ before after. subst (λ (a : List Act). Does a u w) (sym (acts_both before ds))
+            (does_both (acts_of x before cs) (acts_of y (before ++ steps_done) ds) u v w (ran.acts before after)
+            (then_ran.acts (before ++ steps_done) (ran.police before after)));
         works = works_both (saved_by x) u v w ran.works works;
         fits = All-append Fits cs ds ran.fits then_ran.fits;
       }
@@ -189,22 +235,28 @@ module _ (x y : Records) (cs : List Command) (u v : World) (ran : Ran x y cs u v
   -- less was done of others behind them
   pub ran_stopped : (ds : List Command) (e : PortError) (w : World) → StopsIn y ds e v w → StopsIn x (cs ++ ds) e u w
   ran_stopped ds e w (stops, works) =
-      let less : Stopped (saved_by x) (acts_of y ds) v w e = subst (λ (save : Option (List ℕ)). Stopped save (acts_of y ds) v w e) same_save stops in
       let wrote : Works (saved_by x) v w = subst (λ (save : Option (List ℕ)). Works save v w) same_save works in (
-        subst (λ (a : List Act). Stopped (saved_by x) a u w e) (sym (acts_both ds))
-            (stopped_later (saved_by x) (acts_of x cs) (acts_of y ds) u v w e ran.acts ran.works less),
+        λ before after.
+            let behind = before ++ steps_done in
+            let less : Stopped (saved_by x) (acts_of y behind ds) v w e =
+            subst (λ (save : Option (List ℕ)). Stopped save (acts_of y behind ds) v w e) same_save (stops behind (ran.police before after)) in
+            subst (λ (a : List Act). Stopped (saved_by x) a u w e) (sym (acts_both before ds))
+            (stopped_later (saved_by x) (acts_of x before cs) (acts_of y behind ds) u v w e (ran.acts before after) ran.works less),
         works_both (saved_by x) u v w ran.works wrote,
       )
 
 -- less of the first commands is less of all
 pub stops_more : (x : Records) (cs ds : List Command) (e : PortError) (u v : World) → StopsIn x cs e u v → StopsIn x (cs ++ ds) e u v
 stops_more x cs ds e u v (stops, works) =
-    let f = step_acts (saved_by x) x.script x.world.network in
+    let f = step_acts (saved_by x) x.show x.world.network in
     let t = x.world.network in
-    let back = run_from t (state_after t x.world.state cs) ds in
-    let parts : acts_of x (cs ++ ds) ≡ acts_of x cs ++ flat_map f back =
-    ap (flat_map f) (run_from-append t x.world.state cs ds) ∙ flat_map-append f (run_from t x.world.state cs) back in (
-      subst (λ (a : List Act). Stopped (saved_by x) a u v e) (sym parts) (stopped_more (saved_by x) (acts_of x cs) (flat_map f back) u v e stops),
+    let front = run_from t x.world.state cs in
+    let back = run_from t (state_after t x.world.state cs) ds in (
+      λ before after.
+          let rest = along f (before ++ front) back in
+          let parts : acts_of x before (cs ++ ds) ≡ acts_of x before cs ++ rest =
+          ap (along f before) (run_from-append t x.world.state cs ds) ∙ along-append f before front back in
+          subst (λ (a : List Act). Stopped (saved_by x) a u v e) (sym parts) (stopped_more (saved_by x) (acts_of x before cs) rest u v e (stops before after)),
       works,
     )
 
@@ -226,32 +278,45 @@ two_each (x ∷ records) = omega (arith, two_each records)
 
 -- ---- one command
 
-one_act : (x : Records) (c : Command) → acts_of x (c ∷ []) ≡ step_acts (saved_by x) x.script x.world.network (done_by x.world.network x.world.state c)
+one_act : (x : Records) (before : List Done) (c : Command)
+    → acts_of x before (c ∷ []) ≡ step_acts (saved_by x) x.show x.world.network before (done_by x.world.network x.world.state c)
 unfolding run_from
-one_act x c = append-nil (step_acts (saved_by x) x.script x.world.network (done_by x.world.network x.world.state c))
+one_act x before c = append-nil (step_acts (saved_by x) x.show x.world.network before (done_by x.world.network x.world.state c))
 
-pub ran_one : (x y : Records) (c : Command) (u v : World) → y.world.network ≡ x.world.network → y.script ≡ x.script → y.save ≡ x.save
-    → y.world.state ≡ (next x.world.network x.world.state c).state → y.counts ≡ count_all x.counts (verdicts_in (next x.world.network x.world.state c).answer)
-    → total y.counts ≤ total x.counts + 66 → Does (step_acts (saved_by x) x.script x.world.network (done_by x.world.network x.world.state c)) u v
+pub ran_one : (x y : Records) (c : Command) (u v : World) → y.world.network ≡ x.world.network → y.show ≡ x.show → y.save ≡ x.save
+    → y.world.state ≡ (next x.world.network x.world.state c).state
+    → y.tally.counts ≡ count_all x.tally.counts (verdicts_in (next x.world.network x.world.state c).answer)
+    → total y.tally.counts ≤ total x.tally.counts + 66
+    → y.tally.alarm ≡ x.tally.alarm || shows_alarm x.show x.world.network (done_by x.world.network x.world.state c)
+    → ((before : List Done) → IsAfter x before
+    → ArePoliced x.world.network x.show.police y.police (offers_of (before ++ done_by x.world.network x.world.state c ∷ [])) y.world.state.moment)
+    → ((before : List Done) → IsAfter x before → Does (step_acts (saved_by x) x.show x.world.network before (done_by x.world.network x.world.state c)) u v)
     → Works (saved_by x) u v → Fits c → Ran x y (c ∷ []) u v
 unfolding state_after run_from all_verdicts done_by
-ran_one x y c u v network script save state counts few done works fits = record {
+ran_one x y c u v network show save state counts few alarm police done works fits = record {
   network = network;
-  script = script;
+  show = show;
   save = save;
   state = state;
   steps = ap (λ (s : State). s.steps) state ∙ next_counts x.world.network x.world.state c;
-  counts = counts ∙ ap (count_all x.counts) (sym (append-nil (verdicts_in (next x.world.network x.world.state c).answer)));
+  counts = counts ∙ ap (count_all x.tally.counts) (sym (append-nil (verdicts_in (next x.world.network x.world.state c).answer)));
   few = omega (arith, few);
-  acts = subst (λ (acts : List Act). Does acts u v) (sym (one_act x c)) done;
+  alarm = alarm ∙ ap (λ b. x.tally.alarm || b) (sym (or_none (shows_alarm x.show x.world.network (done_by x.world.network x.world.state c))));
+  police = λ before after.
+      let os = offers_of (before ++ done_by x.world.network x.world.state c ∷ []) in
+      subst (λ (n : Network). ArePoliced n y.show.police y.police os y.world.state.moment) (sym network)
+      (subst (λ (sh : Showing). ArePoliced x.world.network sh.police y.police os y.world.state.moment) (sym show) (police before after));
+  acts = λ before after. subst (λ (acts : List Act). Does acts u v) (sym (one_act x before c)) (done before after);
   works = works;
   fits = All-cons Fits c [] fits (All-nil Fits);
 }
 
 pub stops_one : (x : Records) (c : Command) (e : PortError) (u v : World)
-    → Stopped (saved_by x) (step_acts (saved_by x) x.script x.world.network (done_by x.world.network x.world.state c)) u v e
+    → ((before : List Done) → IsAfter x before
+    → Stopped (saved_by x) (step_acts (saved_by x) x.show x.world.network before (done_by x.world.network x.world.state c)) u v e)
     → Works (saved_by x) u v → StopsIn x (c ∷ []) e u v
-stops_one x c e u v stops works = (subst (λ (acts : List Act). Stopped (saved_by x) acts u v e) (sym (one_act x c)) stops, works)
+stops_one x c e u v stops works =
+    (λ before after. subst (λ (acts : List Act). Stopped (saved_by x) acts u v e) (sym (one_act x before c)) (stops before after), works)
 
 -- ---- a record: two commands, taken behind others
 
@@ -281,11 +346,11 @@ module _ (x y : Records) (xs : List Captured) (u v : World) (c : Captured) (ran 
   -- or before either
   pub stopped_before : Does [] v v → StopsIn x (records_commands (xs ++ c ∷ [])) OutOfMemory u v
   stopped_before nothing = (
-    record {
-      before = acts_of x (records_commands xs);
+    λ before after. record {
+      before = acts_of x before (records_commands xs);
       after = _;
-      order = ap (acts_of x) (record_last xs c) ∙ acts_both x y (records_commands xs) u v ran (record_commands c);
-      done = ran.acts;
+      order = ap (acts_of x before) (record_last xs c) ∙ acts_both x y (records_commands xs) u v ran before (record_commands c);
+      done = ran.acts before after;
     },
     ran.works,
   )

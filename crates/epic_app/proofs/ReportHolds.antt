@@ -33,7 +33,8 @@ use Rattle.epic_world.specs.Sound.{RunsHold}
 use Rattle.epic_app.specs.Acts.{Act, World, Does, printed, prints}
 use Rattle.epic_app.specs.Captures.{RecordsFit, records_commands, run_commands}
 use Rattle.epic_app.specs.Claims.{GenHolds, HopHolds, HoldsRecords, HoldsUnder, RunHolds}
-use Rattle.epic_app.specs.Doing.{Progress, by_commands, by_records, by_topology, doing, ends, gen_done, hop_done, on_capture, on_commands, on_topology, run_acts, run_by, run_cut, run_done, whole, within, steps_acts}
+use Rattle.epic_app.specs.Doing.{Progress, by_commands, by_records, by_topology, doing, ends, gen_done, hop_done, on_capture, on_commands, on_topology, run_acts, run_by, run_with, showing, run_cut, run_done, whole, within, steps_acts}
+use Rattle.epic_app.specs.Showing.{Showing}
 use Rattle.epic_app.specs.FaultLines.{capture_line, fault_line, long_topology_line, read_line, too_long_line, topology_line}
 use Rattle.epic_app.specs.Generating.{gen_text, generated_steps}
 use Rattle.epic_app.specs.HopFile.{hop_rule}
@@ -42,7 +43,7 @@ use Rattle.epic_app.specs.Limits.{file_limit, script_limit, topology_limit}
 use Rattle.epic_app.specs.Outcome.{ErrorSink, EndsBy, EndsUnder}
 use Rattle.epic_app.specs.Readings.{Reading, Whole, Failed, Unread, Holds, AreRead, IsRead}
 use Rattle.epic_words.specs.Request.{Request, Hop, Run, Gen, RunRequest, reads_of}
-use Rattle.epic_app.specs.RunReport.{has_alarm}
+use Rattle.epic_app.specs.RunReport.{has_alarm, run_alarms}
 use Rattle.epic_app.proofs.ActFiles.{printed-prints}
 use Rattle.epic_app.proofs.ScriptCommands.{few_commands}
 use Rattle.epic_app.proofs.RunActs.{printed-run, saves_whole}
@@ -178,39 +179,39 @@ fits_so (command.Reveal holder) is = tt
 fits_so (command.Roll a) is = tt
 
 -- the records of a capture decided, if one is named
-record ByCapture (capture save : Option (List ℕ)) (t : Network) (commands : List Command) (p : Progress) (contents : Option Files) : Type 0 where
+record ByCapture (capture save : Option (List ℕ)) (show : Showing) (t : Network) (commands : List Command) (p : Progress) (contents : Option Files) : Type 0 where
   records : List Captured
   are : HoldsRecords capture contents records
-  leads : p ≡ run_done save t commands records
+  leads : p ≡ run_done save show t commands records
   fit : All Fits (records_commands records)
   few : length records ≤ 262144
 
-capture_decides : (capture save : Option (List ℕ)) (t : Network) (commands : List Command) (rest : List Reading) (old new : World) (status : ℕ)
-    → status < 2 → IsEnd (run_by capture rest save t commands) status → AreRead old new (option_to_list capture) rest → AllByRecursion RecordsFit rest
-    → ByCapture capture save t commands (run_by capture rest save t commands) old.contents
+capture_decides : (capture save : Option (List ℕ)) (show : Showing) (t : Network) (commands : List Command) (rest : List Reading) (old new : World) (status : ℕ)
+    → status < 2 → IsEnd (run_by capture rest save show t commands) status → AreRead old new (option_to_list capture) rest → AllByRecursion RecordsFit rest
+    → ByCapture capture save show t commands (run_by capture rest save show t commands) old.contents
 unfolding run_by on_capture by_records run_cut records_commands
-capture_decides None save t commands [] old new status below end read fits =
+capture_decides None save show t commands [] old new status below end read fits =
     record { records = []; are = refl; leads = refl; fit = All-nil Fits; few = omega arith }
-capture_decides None save t commands (reading ∷ rest) old new status below end read fits = absurd read
-capture_decides (Some name) save t commands [] old new status below end read fits = absurd read
-capture_decides (Some name) save t commands (Failed front ∷ []) old new status below end read fits =
-    absurd (no_end (steps_acts save (length commands) t (run t (run_commands commands (records_in front).items))) 6 (read_line name) status (omega arith) below end)
-capture_decides (Some name) save t commands (Unread ∷ []) old new status below (line, is) read fits = absurd (cc)
-capture_decides (Some name) save t commands (Whole bytes ∷ []) old new status below end (holds, none) (fits, no_more) =
+capture_decides None save show t commands (reading ∷ rest) old new status below end read fits = absurd read
+capture_decides (Some name) save show t commands [] old new status below end read fits = absurd read
+capture_decides (Some name) save show t commands (Failed front ∷ []) old new status below end read fits =
+    absurd (no_end (steps_acts save show t (run t (run_commands commands (records_in front).items))) 6 (read_line name) status (omega arith) below end)
+capture_decides (Some name) save show t commands (Unread ∷ []) old new status below (line, is) read fits = absurd (cc)
+capture_decides (Some name) save show t commands (Whole bytes ∷ []) old new status below end (holds, none) (fits, no_more) =
     by (records_in bytes).damage refl end
   where
-    by : (damage : Option Damage) → (records_in bytes).damage ≡ damage → IsEnd (by_records save t commands (records_in bytes).items damage) status
-        → ByCapture (Some name) save t commands (by_records save t commands (records_in bytes).items (records_in bytes).damage) old.contents
+    by : (damage : Option Damage) → (records_in bytes).damage ≡ damage → IsEnd (by_records save show t commands (records_in bytes).items damage) status
+        → ByCapture (Some name) save show t commands (by_records save show t commands (records_in bytes).items (records_in bytes).damage) old.contents
     by (Some e) is end =
-        absurd (no_end (steps_acts save (length commands) t (run t (run_commands commands (records_in bytes).items))) 5 (capture_line e) status (omega arith) below end)
+        absurd (no_end (steps_acts save show t (run t (run_commands commands (records_in bytes).items))) 5 (capture_line e) status (omega arith) below end)
     by None is end = record {
       records = (records_in bytes).items;
       are = (bytes, holds, ap (λ (damage : Option Damage). record { items = (records_in bytes).items; damage = damage }) is);
-      leads = ap (by_records save t commands (records_in bytes).items) is;
+      leads = ap (by_records save show t commands (records_in bytes).items) is;
       fit = fits;
       few = few_records bytes;
     }
-capture_decides (Some name) save t commands (reading ∷ second ∷ rest) old new status below end (read, many) fits = absurd many
+capture_decides (Some name) save show t commands (reading ∷ second ∷ rest) old new status below end (read, many) fits = absurd many
 
 module _ (runs_hold : RunsHold) (spelled : CommandsAreSpelled) where
   run_claims : (r : RunRequest) (old new : World) (first second : Reading) (rest : List Reading) (status : ℕ) → IsRead old new r.topology first → IsRead old new r.script second
@@ -218,17 +219,17 @@ module _ (runs_hold : RunsHold) (spelled : CommandsAreSpelled) where
       → IsEnd (doing (Run r) (first ∷ second ∷ rest)) status → Does (doing (Run r) (first ∷ second ∷ rest)).acts old new → RunHolds r old new status
   unfolding doing run_done run run_commands
   run_claims r old new first second rest status read read_too reads fits below end done =
-      let next : Network → Progress = λ t. on_commands r.script script_limit run_rule second (run_by r.capture rest r.save t) in
+      let next : Network → Progress = λ t. on_commands r.script script_limit run_rule second (run_with r rest t) in
       let top = topology_decides r.topology first next status below end in
       let t = top.network in
       let end_next : IsEnd (next t) status = let P : Progress → Type 0 = λ p. IsEnd p status in subst P top.leads end in
-      let by = commands_decide r.script script_limit run_rule second (run_by r.capture rest r.save t) status below end_next in
-      let end_last : IsEnd (run_by r.capture rest r.save t by.commands) status = let P : Progress → Type 0 = λ p. IsEnd p status in subst P by.leads end_next in
-      let of = capture_decides r.capture r.save t by.commands rest old new status below end_last reads fits in
+      let by = commands_decide r.script script_limit run_rule second (run_with r rest t) status below end_next in
+      let end_last : IsEnd (run_with r rest t by.commands) status = let P : Progress → Type 0 = λ p. IsEnd p status in subst P by.leads end_next in
+      let of = capture_decides r.capture r.save (showing r (length by.commands)) t by.commands rest old new status below end_last reads fits in
       let leads = top.leads ∙ (by.leads ∙ of.leads) in
       let commands = run_commands by.commands of.records in
       let steps = run_from t start commands in
-      let acts = run_acts r.save (length by.commands) t steps in
+      let acts = run_acts r.save (showing r (length by.commands)) t steps in
       let did : Does acts old new = let P : List Act → Type 0 = λ a. Does a old new in subst P (ap (λ (p : Progress). p.acts) leads) done in
       let lawful : IsTopology t = at_ok IsTopology (topology top.bytes) t top.is (read_lawful top.bytes) in
       let fit = All-append Fits by.commands (records_commands of.records) (all_map IsSpelled Fits by.commands fits_so (spelled by.bytes by.commands by.are)) of.fit in
@@ -248,9 +249,10 @@ module _ (runs_hold : RunsHold) (spelled : CommandsAreSpelled) where
         are_records = of.are;
         steps = holds.0;
         last = holds.1;
-        report = (let P = Appends old.written new.written in subst P (printed-run r.save (length by.commands) t steps) did.output);
-        alarm = status_one (has_alarm steps) (has_alarm steps) status refl (sym (ap (λ (p : Progress). ended_status p) leads) ∙ ended_at (doing (Run r) (first ∷ second ∷ rest)) status end);
-        saved = saves_whole r.save (length by.commands) t steps old.contents new.contents did.files;
+        report = (let P = Appends old.written new.written in subst P (printed-run r.save (showing r (length by.commands)) t steps) did.output);
+        alarm = status_one (run_alarms (showing r (length by.commands)) t steps) (run_alarms (showing r (length by.commands)) t steps) status refl
+            (sym (ap (λ (p : Progress). ended_status p) leads) ∙ ended_at (doing (Run r) (first ∷ second ∷ rest)) status end);
+        saved = saves_whole r.save (showing r (length by.commands)) t steps old.contents new.contents did.files;
       }
 
 -- ---- generated runs

@@ -5,7 +5,9 @@ use Rattle.epic_ports.specs.Files.{Files}
 use Rattle.epic_text.specs.Counts.{counts_of, end_line}
 use Rattle.epic_topo.specs.Network.{Network}
 use Rattle.epic_world.specs.Run.{Done}
+use Rattle.epic_app.specs.Showing.{Showing}
 use Rattle.epic_app.specs.Acts.{Append, FilesBecome, appends, creates, printed, prints}
+use Rattle.epic_app.specs.Along.{along}
 use Rattle.epic_app.specs.Claims.{Saves}
 use Rattle.epic_app.specs.Captures.{shown}
 use Rattle.epic_app.specs.Doing.{run_acts, step_acts}
@@ -37,40 +39,45 @@ printed-opening save =
     printed-append (creates save) (appends save file_head)
     ∙ (ap (λ text. text ++ printed (appends save file_head)) (printed-creates save) ∙ printed-appends save file_head)
 
-module _ (save : Option (List ℕ)) (script : ℕ) (t : Network) where
-  printed-step : (d : Done) → printed (step_acts save script t d) ≡ step_text script t d
+module _ (save : Option (List ℕ)) (show : Showing) (t : Network) where
+  printed-step : (before : List Done) (d : Done) → printed (step_acts save show t before d) ≡ step_text show t before d
   unfolding step_acts
-  printed-step d =
-      printed-append (prints (step_text script t d)) (appends save (saved_in d))
-      ∙ (ap (λ text. printed (prints (step_text script t d)) ++ text) (printed-appends save (saved_in d))
-      ∙ (append-nil (printed (prints (step_text script t d))) ∙ printed-prints (step_text script t d)))
+  printed-step before d =
+      printed-append (prints (step_text show t before d)) (appends save (saved_in d))
+      ∙ (ap (λ text. printed (prints (step_text show t before d)) ++ text) (printed-appends save (saved_in d))
+      ∙ (append-nil (printed (prints (step_text show t before d))) ∙ printed-prints (step_text show t before d)))
 
-  printed-steps : (steps : List Done) → printed (flat_map (step_acts save script t) steps) ≡ steps_text script t steps
-  unfolding steps_text printed
-  printed-steps [] = refl
-  printed-steps (d ∷ steps) =
-      printed-append (step_acts save script t d) (flat_map (step_acts save script t) steps)
-      ∙ (ap (λ text. text ++ printed (flat_map (step_acts save script t) steps)) (printed-step d) ∙ ap (λ text. step_text script t d ++ text) (printed-steps steps))
+  printed-along : (before steps : List Done) → printed (along (step_acts save show t) before steps) ≡ along (step_text show t) before steps
+  unfolding printed
+  printed-along before [] = refl
+  printed-along before (d ∷ steps) =
+      printed-append (step_acts save show t before d) (along (step_acts save show t) (before ++ d ∷ []) steps)
+      ∙ (ap (λ text. text ++ printed (along (step_acts save show t) (before ++ d ∷ []) steps)) (printed-step before d)
+      ∙ ap (λ text. step_text show t before d ++ text) (printed-along (before ++ d ∷ []) steps))
 
-  pub printed-run : (steps : List Done) → printed (run_acts save script t steps) ≡ run_text script t steps
+  printed-steps : (steps : List Done) → printed (along (step_acts save show t) [] steps) ≡ steps_text show t steps
+  unfolding steps_text
+  printed-steps steps = printed-along [] steps
+
+  pub printed-run : (steps : List Done) → printed (run_acts save show t steps) ≡ run_text show t steps
   unfolding run_acts run_text
   printed-run steps =
-      let acts = flat_map (step_acts save script t) steps in
-      let end = end_line (counts_of (shown script (length steps)) (all_verdicts steps)) in
+      let acts = along (step_acts save show t) [] steps in
+      let end = end_line (counts_of (shown show.script (length steps)) (all_verdicts steps)) in
       printed-append (opening save) (acts ++ prints end)
       ∙ (ap (λ text. text ++ printed (acts ++ prints end)) (printed-opening save)
       ∙ (printed-append acts (prints end)
-      ∙ (ap (λ text. text ++ printed (prints end)) (printed-steps steps) ∙ ap (λ text. steps_text script t steps ++ text) (printed-prints end))))
+      ∙ (ap (λ text. text ++ printed (prints end)) (printed-steps steps) ∙ ap (λ text. steps_text show t steps ++ text) (printed-prints end))))
 
 -- ---- the saved file
 
-told_saved : (name : List ℕ) (script : ℕ) (t : Network) (steps : List Done) (old new : Option Files) → FilesBecome (run_acts (Some name) script t steps) old new
+told_saved : (name : List ℕ) (show : Showing) (t : Network) (steps : List Done) (old new : Option Files) → FilesBecome (run_acts (Some name) show t steps) old new
     → Saves (Some name) (captured_by steps) old new
-told_saved name script t steps None new becomes = tt
-told_saved name script t steps (Some f) None becomes = absurd becomes
-told_saved name script t steps (Some f) (Some g) becomes = becomes name ∙ (saved_is_whole name script t steps).whole (f name)
+told_saved name show t steps None new becomes = tt
+told_saved name show t steps (Some f) None becomes = absurd becomes
+told_saved name show t steps (Some f) (Some g) becomes = becomes name ∙ (saved_is_whole name show t steps).whole (f name)
 
-pub saves_whole : (save : Option (List ℕ)) (script : ℕ) (t : Network) (steps : List Done) (old new : Option Files) → FilesBecome (run_acts save script t steps) old new
+pub saves_whole : (save : Option (List ℕ)) (show : Showing) (t : Network) (steps : List Done) (old new : Option Files) → FilesBecome (run_acts save show t steps) old new
     → Saves save (captured_by steps) old new
-saves_whole None script t steps old new becomes = tt
-saves_whole (Some name) script t steps old new becomes = told_saved name script t steps old new becomes
+saves_whole None show t steps old new becomes = tt
+saves_whole (Some name) show t steps old new becomes = told_saved name show t steps old new becomes

@@ -1,8 +1,9 @@
 -- How a run ends behind its script: with the records of a capture, or with none.
-use Rattle.std.proofs.Common.{◌≡◌, ◌⊎◌, ℕ, ◌+◌, ◌*◌, ◌<◌, ◌≤◌, ◌^◌, Bool, ltb, ◌||◌, List, [], ◌∷◌, ◌++◌, length, flat_map, Option, Some, None, Result, Ok, Err, Contains, refl, sym, ap, subst, ◌∙◌, inl, inr, append-nil, append_assoc, length-append, arith}
+use Rattle.std.proofs.Common.{◌≡◌, ◌⊎◌, ℕ, ◌+◌, ◌*◌, ◌<◌, ◌≤◌, ◌^◌, Bool, ltb, ◌||◌, List, [], ◌∷◌, ◌++◌, length, Option, Some, None, Result, Ok, Err, Contains, refl, sym, ap, subst, ◌∙◌, inl, inr, append-nil, append_assoc, length-append, arith}
 use Rattle.std.specs.Prelude.{IfOk}
+use Rattle.std.specs.List.{list_any}
 use Rattle.std.specs.Option.{option_to_list}
-use Rattle.std.proofs.lemmas.List.Concat.{flat_map-append}
+use Rattle.std.proofs.lemmas.List.Folds.{list_any-append}
 use Rattle.epic_num.specs.declared.command.Command.{Command}
 use Rattle.epic_capture.specs.Records.{Captured}
 use Rattle.epic_feed.specs.declared.damage.Damage.{Damage}
@@ -21,20 +22,24 @@ use Rattle.epic_world.specs.Run.{Done as DoneStep, run, run_from, state_after}
 use Rattle.epic_app.specs.declared.end.End.{End}
 use Rattle.epic_app.specs.declared.end.End.TheVariants.{Done, BadWords, BadTopology, LongTopology, BadScript, LongScript, BadCapture, ReadFault, WriteFault, OutOfMemory}
 use Rattle.epic_app.specs.declared.taking.Records.{Records}
+use Rattle.epic_app.specs.Showing.{Showing}
 use Rattle.epic_app.specs.Acts.{Act, World, Does, StopsBefore, prints}
+use Rattle.epic_app.specs.Along.{along}
 use Rattle.epic_app.specs.Captures.{records_commands, run_commands, shown}
 use Rattle.epic_app.specs.Doing.{Progress, by_records, on_capture, run_acts, run_by, run_cut, run_done, step_acts, steps_acts}
 use Rattle.epic_app.specs.End.{HasCause, end_after, status_of}
 use Rattle.epic_app.specs.FaultLines.{read_line}
+use Rattle.epic_app.specs.Noting.{shows_alarm}
 use Rattle.epic_app.specs.Performing.{OthersKeep, Performs, Stopped, Works}
 use Rattle.epic_app.specs.Readings.{Whole, Failed, Unread, Holds, Begins}
 use Rattle.epic_app.specs.RunEnding.{IsBehind, RunBlames, RunEnds}
-use Rattle.epic_app.specs.RunReport.{all_verdicts, has_alarm}
+use Rattle.epic_app.specs.RunReport.{all_verdicts, has_alarm, run_alarms}
 use Rattle.epic_app.specs.Saved.{opening}
 use Rattle.epic_app.specs.StepLines.{count_all}
 use Rattle.epic_app.specs.Taking.{Ran, StopsIn, acts_of, saved_by}
 use Rattle.epic_app.specs.Writing.{Writes}
 use Rattle.epic_app.proofs.ActFiles.{does_both}
+use Rattle.epic_app.proofs.AlongLaws.{along-append}
 use Rattle.epic_app.proofs.ActLaws.{acts_cause}
 use Rattle.epic_app.proofs.Acting.{performs_works, prints_performed, stopped_later, stopped_more}
 use Rattle.epic_app.proofs.FileLaws.{later_by, rose_between}
@@ -85,67 +90,77 @@ module _ (x : Records) (t : Network) (commands : List Command) (u old : World) (
   abbrev save : Option (List ℕ)
   save = saved_by x
 
-  -- the acts of the script, and of all with these records
+  abbrev show : Showing
+  show = x.show
+
+  -- the script's steps, and the acts of the script, and of all with these records
+  abbrev script_steps : List DoneStep
+  script_steps = run t commands
+
   abbrev script_acts : List Act
-  script_acts = steps_acts save (length commands) t (run t commands)
+  script_acts = steps_acts save show t script_steps
 
   abbrev all_acts : List Captured → List Act
-  all_acts xs = steps_acts save (length commands) t (run t (run_commands commands xs))
+  all_acts xs = steps_acts save show t (run t (run_commands commands xs))
 
-  all_are : (xs : List Captured) → all_acts xs ≡ script_acts ++ acts_of x (records_commands xs)
+  all_are : (xs : List Captured) → all_acts xs ≡ script_acts ++ acts_of x script_steps (records_commands xs)
   unfolding steps_acts run run_commands
   all_are xs =
-      let f = step_acts save (length commands) t in
+      let f = step_acts save show t in
       let cs = records_commands xs in
-      let front = flat_map f (run_from t start commands) in
-      let back : acts_of x cs ≡ flat_map f (run_from t (state_after t start commands) cs)
-      = λ k. flat_map (step_acts save (b.script k) (b.network k)) (run_from (b.network k) (b.state k) cs) in
-      ap (λ steps. opening save ++ flat_map f steps) (run_from-append t start commands cs)
-      ∙ (ap (λ acts. opening save ++ acts) (flat_map-append f (run_from t start commands) (run_from t (state_after t start commands) cs))
-      ∙ (ap (λ acts. opening save ++ (front ++ acts)) (sym back) ∙ sym (append_assoc (opening save) front (acts_of x cs))))
+      let steps = run_from t start commands in
+      let front = along f [] steps in
+      let back : acts_of x steps cs ≡ along f steps (run_from t (state_after t start commands) cs)
+      = λ k. along (step_acts save show (b.network k)) steps (run_from (b.network k) (b.state k) cs) in
+      ap (λ ds. opening save ++ along f [] ds) (run_from-append t start commands cs)
+      ∙ (ap (λ acts. opening save ++ acts) (along-append f [] steps (run_from t (state_after t start commands) cs))
+      ∙ (ap (λ acts. opening save ++ (front ++ acts)) (sym back) ∙ sym (append_assoc (opening save) front (acts_of x steps cs))))
 
   -- all were done
   pub all_done : (y : Records) (xs : List Captured) (new : World) → Ran x y (records_commands xs) old new → Does (all_acts xs) u new
   all_done y xs new ran =
-      subst (λ (acts : List Act). Does acts u new) (sym (all_are xs)) (does_both script_acts (acts_of x (records_commands xs)) u old new b.done ran.acts)
+      subst (λ (acts : List Act). Does acts u new) (sym (all_are xs))
+      (does_both script_acts (acts_of x script_steps (records_commands xs)) u old new b.done (ran.acts script_steps b.police))
 
   -- less was done of some records and those behind them
   pub all_stopped : (xs ys : List Captured) (e : PortError) (new : World) → StopsIn x (records_commands xs) e old new → Stopped save (all_acts (xs ++ ys)) u new e
   all_stopped xs ys e new stops =
       let more = subst (λ (cs : List Command). StopsIn x cs e old new) (sym (records-append xs ys)) (stops_more x (records_commands xs) (records_commands ys) e old new stops) in
       subst (λ (acts : List Act). Stopped save acts u new e) (sym (all_are (xs ++ ys)))
-      (stopped_later save script_acts (acts_of x (records_commands (xs ++ ys))) u old new e b.done b.works more.0)
+      (stopped_later save script_acts (acts_of x script_steps (records_commands (xs ++ ys))) u old new e b.done b.works (more.0 script_steps b.police))
 
   -- some records were done
   pub all_before : (y : Records) (xs ys : List Captured) (new : World) → Ran x y (records_commands xs) old new → StopsBefore (all_acts (xs ++ ys)) u new
   all_before y xs ys new ran =
-      let f = step_acts save x.script x.world.network in
+      let f = step_acts save show x.world.network in
+      let front = run_from x.world.network x.world.state (records_commands xs) in
       let back = run_from x.world.network (state_after x.world.network x.world.state (records_commands xs)) (records_commands ys) in
+      let rest = along f (script_steps ++ front) back in
       record {
         before = all_acts xs;
-        after = flat_map f back;
+        after = rest;
         order = all_are (xs ++ ys)
-            ∙ (ap (λ cs. script_acts ++ acts_of x cs) (records-append xs ys)
-            ∙ (ap (λ steps. script_acts ++ flat_map f steps) (run_from-append x.world.network x.world.state (records_commands xs) (records_commands ys))
-            ∙ (ap (λ acts. script_acts ++ acts) (flat_map-append f (run_from x.world.network x.world.state (records_commands xs)) back)
-            ∙ (sym (append_assoc script_acts (acts_of x (records_commands xs)) (flat_map f back)) ∙ ap (λ acts. acts ++ flat_map f back) (sym (all_are xs))))));
+            ∙ (ap (λ cs. script_acts ++ acts_of x script_steps cs) (records-append xs ys)
+            ∙ (ap (λ steps. script_acts ++ along f script_steps steps) (run_from-append x.world.network x.world.state (records_commands xs) (records_commands ys))
+            ∙ (ap (λ acts. script_acts ++ acts) (along-append f script_steps front back)
+            ∙ (sym (append_assoc script_acts (acts_of x script_steps (records_commands xs)) rest) ∙ ap (λ acts. acts ++ rest) (sym (all_are xs))))));
         done = all_done y xs new ran;
       }
 
   -- the acts of records that a capture's damage or end follows
-  more_acts : (xs : List Captured) (damage : Option Damage) → (more : List Act) × ((by_records save t commands xs damage).acts ≡ all_acts xs ++ more)
+  more_acts : (xs : List Captured) (damage : Option Damage) → (more : List Act) × ((by_records save show t commands xs damage).acts ≡ all_acts xs ++ more)
   unfolding by_records run_done run_cut run_acts steps_acts
-  more_acts xs None = (_, sym (append_assoc (opening save) (flat_map (step_acts save (length commands) t) (run t (run_commands commands xs))) _))
+  more_acts xs None = (_, sym (append_assoc (opening save) (along (step_acts save show t) [] (run t (run_commands commands xs))) _))
   more_acts xs (Some e) = ([], sym (append-nil (all_acts xs)))
 
   pub records_stopped : (xs ys : List Captured) (damage : Option Damage) (e : PortError) (new : World) → StopsIn x (records_commands xs) e old new
-      → Stopped save (by_records save t commands (xs ++ ys) damage).acts u new e
+      → Stopped save (by_records save show t commands (xs ++ ys) damage).acts u new e
   records_stopped xs ys damage e new stops =
       let (more, is) = more_acts (xs ++ ys) damage in
       subst (λ (acts : List Act). Stopped save acts u new e) (sym is) (stopped_more save (all_acts (xs ++ ys)) more u new e (all_stopped xs ys e new stops))
 
   pub records_before : (y : Records) (xs ys : List Captured) (damage : Option Damage) (new : World) → Ran x y (records_commands xs) old new
-      → StopsBefore (by_records save t commands (xs ++ ys) damage).acts u new
+      → StopsBefore (by_records save show t commands (xs ++ ys) damage).acts u new
   records_before y xs ys damage new ran =
       let (more, is) = more_acts (xs ++ ys) damage in
       subst (λ (acts : List Act). Stopped save acts u new NoMemory) (sym is)
@@ -157,7 +172,7 @@ module _ (x : Records) (t : Network) (commands : List Command) (u old : World) (
     abbrev steps : List DoneStep
     steps = run t (run_commands commands xs)
 
-    counts_are : y.counts ≡ counts_of 0 (all_verdicts steps)
+    counts_are : y.tally.counts ≡ counts_of 0 (all_verdicts steps)
     unfolding run run_commands
     counts_are =
         let cs = records_commands xs in
@@ -167,40 +182,51 @@ module _ (x : Records) (t : Network) (commands : List Command) (u old : World) (
         ∙ (count_all-counts 0 (all_verdicts (run_from t start commands)) (all_verdicts back)
         ∙ ap (counts_of 0) (sym (ap all_verdicts (run_from-append t start commands cs) ∙ verdicts-append (run_from t start commands) back))))
 
+    makers_are : y.tally.alarm ≡ list_any (shows_alarm show t) steps
+    unfolding run run_commands
+    makers_are =
+        let cs = records_commands xs in
+        let f = shows_alarm show t in
+        let back = run_from t (state_after t start commands) cs in
+        ran.alarm
+        ∙ ((λ k. b.alarm k || list_any (shows_alarm show (b.network k)) (run_from (b.network k) (b.state k) cs))
+        ∙ sym (ap (list_any f) (run_from-append t start commands cs) ∙ list_any-append f (run_from t start commands) back))
+
     steps_are : y.world.state.steps ≡ length steps
     unfolding run
     steps_are = omega (arith, ran.steps, b.steps, length_records commands xs, length-run_from t start (run_commands commands xs))
 
-    line_is : end_line (record y.counts { steps = shown y.script y.world.state.steps }) ≡ end_line (counts_of (shown (length commands) (length steps)) (all_verdicts steps))
-    line_is = λ k. end_line (record (counts_are k) { steps = shown ((ran.script ∙ b.script) k) (steps_are k) })
+    line_is : end_line (record y.tally.counts { steps = shown y.show.script y.world.state.steps }) ≡ end_line (counts_of (shown show.script (length steps)) (all_verdicts steps))
+    line_is = λ k. end_line (record (counts_are k) { steps = shown (ran.show k).script (steps_are k) })
 
-    alarm_is : (ltb 0 y.counts.forged || ltb 0 y.counts.collided) ≡ has_alarm steps
-    unfolding has_alarm
-    alarm_is = ap (λ (c : Counts). ltb 0 c.forged || ltb 0 c.collided) counts_are ∙ alarms (all_verdicts steps)
+    alarm_is : (ltb 0 y.tally.counts.forged || ltb 0 y.tally.counts.collided) || y.tally.alarm ≡ run_alarms show t steps
+    unfolding run_alarms has_alarm
+    alarm_is = λ k. (ap (λ (c : Counts). ltb 0 c.forged || ltb 0 c.collided) counts_are ∙ alarms (all_verdicts steps)) k || makers_are k
 
     module _ (new : World) (r : Result Bool PortError) (keeps : KeepsFiles mid.contents new.contents)
-        (writes : Writes (end_line (record y.counts { steps = shown y.script y.world.state.steps })) mid.written new.written mid.faults new.faults r)
-        (alarm : IfOk r (λ forged. forged ≡ (ltb 0 y.counts.forged || ltb 0 y.counts.collided))) where
-      performed : Performs save (run_acts save (length commands) t steps) u new r
+        (writes : Writes (end_line (record y.tally.counts { steps = shown y.show.script y.world.state.steps })) mid.written new.written mid.faults new.faults r)
+        (alarm : IfOk r (λ forged. forged ≡ (ltb 0 y.tally.counts.forged || ltb 0 y.tally.counts.collided) || y.tally.alarm)) where
+      performed : Performs save (run_acts save show t steps) u new r
       unfolding run_acts steps_acts
       performed =
-          let line = end_line (counts_of (shown (length commands) (length steps)) (all_verdicts steps)) in
+          let line = end_line (counts_of (shown show.script (length steps)) (all_verdicts steps)) in
           let written : Performs save (prints line) mid new r = subst (λ (text : List ℕ). Performs save (prints text) mid new r) line_is
-          (prints_performed save (end_line (record y.counts { steps = shown y.script y.world.state.steps })) mid new r keeps writes) in
+          (prints_performed save (end_line (record y.tally.counts { steps = shown y.show.script y.world.state.steps })) mid new r keeps writes) in
           subst (λ (acts : List Act). Performs save acts u new r)
-          (append_assoc (opening save) (flat_map (step_acts save (length commands) t) steps) (prints line))
+          (append_assoc (opening save) (along (step_acts save show t) [] steps) (prints line))
           (performs_works save (all_acts xs) (prints line) u mid new r (all_done y xs mid ran) (works_both save u old mid b.works ran.works) written)
 
-      told_alarm : (q : Result Bool PortError) → IfOk q (λ forged. forged ≡ (ltb 0 y.counts.forged || ltb 0 y.counts.collided)) → IfOk q (λ forged. forged ≡ has_alarm steps)
+      told_alarm : (q : Result Bool PortError) → IfOk q (λ forged. forged ≡ (ltb 0 y.tally.counts.forged || ltb 0 y.tally.counts.collided) || y.tally.alarm)
+          → IfOk q (λ forged. forged ≡ run_alarms show t steps)
       told_alarm (Ok forged) is = is ∙ alarm_is
       told_alarm (Err e) is = tt
 
-      pub finish_cause : HasCause (run_done save t commands xs) u new (end_after r)
+      pub finish_cause : HasCause (run_done save show t commands xs) u new (end_after r)
       unfolding run_done
-      finish_cause = acts_cause save (run_acts save (length commands) t steps) (has_alarm steps) u new r performed (told_alarm r alarm)
+      finish_cause = acts_cause save (run_acts save show t steps) (run_alarms show t steps) u new r performed (told_alarm r alarm)
 
       pub finish_blames : (capture : Option (List ℕ)) → RunBlames capture save u new (end_after r)
-      finish_blames capture = blames_performed capture save (run_acts save (length commands) t steps) u new r performed
+      finish_blames capture = blames_performed capture save (run_acts save show t steps) u new r performed
 
 -- ---- a run with no capture
 
@@ -211,9 +237,9 @@ no_records commands = append-nil commands
 
 pub run_alone : (x : Records) (t : Network) (commands : List Command) (u old new : World) (r : Result Bool PortError) → IsBehind x t commands u old
     → Ran x x (records_commands []) old old → KeepsFiles old.contents new.contents
-    → Writes (end_line (record x.counts { steps = shown x.script x.world.state.steps })) old.written new.written old.faults new.faults r
-    → IfOk r (λ forged. forged ≡ (ltb 0 x.counts.forged || ltb 0 x.counts.collided)) → new.reads ≡ old.reads → Works (saved_by x) old new
-    → RunEnds None (saved_by x) t commands u new (end_after r)
+    → Writes (end_line (record x.tally.counts { steps = shown x.show.script x.world.state.steps })) old.written new.written old.faults new.faults r
+    → IfOk r (λ forged. forged ≡ (ltb 0 x.tally.counts.forged || ltb 0 x.tally.counts.collided) || x.tally.alarm) → new.reads ≡ old.reads → Works (saved_by x) old new
+    → RunEnds None (saved_by x) x.show t commands u new (end_after r)
 unfolding run_by
 run_alone x t commands u old new r b ran keeps writes alarm reads works = record {
   readings = [];
@@ -227,32 +253,32 @@ run_alone x t commands u old new r b ran keeps writes alarm reads works = record
 }
 
 -- a run that stopped in its script
-pub run_stopped : (capture save : Option (List ℕ)) (t : Network) (commands : List Command) (old new : World) (e : PortError)
-    → Stopped save (steps_acts save (length commands) t (run t commands)) old new e → new.reads ≡ old.reads → Works save old new
-    → RunEnds capture save t commands old new (end_after (Err e))
+pub run_stopped : (capture save : Option (List ℕ)) (show : Showing) (t : Network) (commands : List Command) (old new : World) (e : PortError)
+    → Stopped save (steps_acts save show t (run t commands)) old new e → new.reads ≡ old.reads → Works save old new
+    → RunEnds capture save show t commands old new (end_after (Err e))
 unfolding run_by on_capture run_done run_acts steps_acts run_commands records_commands run
-run_stopped None save t commands old new e stops reads works =
+run_stopped None save show t commands old new e stops reads works =
     let steps = run_from t start (commands ++ []) in
     let all : run_from t start commands ≡ steps = ap (run_from t start) (sym (append-nil commands)) in
-    let end = prints (end_line (counts_of (shown (length commands) (length steps)) (all_verdicts steps))) in
-    let less : Stopped save (opening save ++ (flat_map (step_acts save (length commands) t) steps ++ end)) old new e =
+    let end = prints (end_line (counts_of (shown show.script (length steps)) (all_verdicts steps))) in
+    let less : Stopped save (opening save ++ (along (step_acts save show t) [] steps ++ end)) old new e =
     subst (λ (acts : List Act). Stopped save acts old new e)
-    (ap (λ ds. (opening save ++ flat_map (step_acts save (length commands) t) ds) ++ end) all ∙ append_assoc (opening save) (flat_map (step_acts save (length commands) t) steps) end)
-    (stopped_more save (opening save ++ flat_map (step_acts save (length commands) t) (run_from t start commands)) end old new e stops) in
+    (ap (λ ds. (opening save ++ along (step_acts save show t) [] ds) ++ end) all ∙ append_assoc (opening save) (along (step_acts save show t) [] steps) end)
+    (stopped_more save (opening save ++ along (step_acts save show t) [] (run_from t start commands)) end old new e stops) in
     record {
       readings = [];
       are_read = tt;
-      cause = cause_stopped save (run_done save t commands []) old new e less;
+      cause = cause_stopped save (run_done save show t commands []) old new e less;
       blames = blames_stopped None save _ old new e less;
       fits = λ below. absurd (not_done e below);
       later = λ q. omega (arith, ap (λ (counts : List ℕ → ℕ). counts q) reads);
       reads = λ q absent. ap (λ (counts : List ℕ → ℕ). counts q) reads;
       works = works;
     }
-run_stopped (Some name) save t commands old new e stops reads works = record {
+run_stopped (Some name) save show t commands old new e stops reads works = record {
   readings = Unread ∷ [];
   are_read = (tt, tt);
-  cause = cause_stopped save (on_capture name Unread save t commands) old new e stops;
+  cause = cause_stopped save (on_capture name Unread save show t commands) old new e stops;
   blames = blames_stopped (Some name) save _ old new e stops;
   fits = λ below. absurd (not_done e below);
   later = λ q. omega (arith, ap (λ (counts : List ℕ → ℕ). counts q) reads);
@@ -296,11 +322,11 @@ module _ (x : Records) (t : Network) (commands : List Command) (u old : World) (
 
     -- all records were taken, and the capture has a damage
     pub run_damaged : (y : Records) (e : Damage) → OfFile (capture_in old.contents name) (TookAll (λ xs. Ran x y (records_commands xs) old new) (Some e))
-        → RunEnds (Some name) kept t commands u new (BadCapture e)
+        → RunEnds (Some name) kept x.show t commands u new (BadCapture e)
     unfolding run_by on_capture by_records run_cut
     run_damaged y e (bytes, holds, all) =
         let xs = (records_in bytes).items in
-        let P : Option Damage → Type 0 = λ damage. HasCause (by_records kept t commands xs damage) u new (BadCapture e) in
+        let P : Option Damage → Type 0 = λ damage. HasCause (by_records kept x.show t commands xs damage) u new (BadCapture e) in
         record {
           readings = Whole bytes ∷ [];
           are_read = (held_before bytes holds, tt);
@@ -315,7 +341,7 @@ module _ (x : Records) (t : Network) (commands : List Command) (u old : World) (
     -- a read failed
     pub run_failed : (y : Records) (end : End) → IsFaultOf name end
         → OfFront (capture_in old.contents name) (λ r. Ran x y (records_commands r.items) old new) × Rose (old.reads name) (new.reads name)
-        → RunEnds (Some name) kept t commands u new end
+        → RunEnds (Some name) kept x.show t commands u new end
     unfolding run_by on_capture run_cut
     run_failed y (ReadFault told) is ((front, begins, ran), rose) =
         let xs = (records_in front).items in
@@ -341,19 +367,19 @@ module _ (x : Records) (t : Network) (commands : List Command) (u old : World) (
 
     -- it stopped at a record
     pub run_cut_short : (e : PortError) → OfFile (capture_in old.contents name) (StoppedAt (λ front at. StopsIn x (records_commands (front ++ at ∷ [])) e old new))
-        → RunEnds (Some name) kept t commands u new (end_after (Err e))
+        → RunEnds (Some name) kept x.show t commands u new (end_after (Err e))
     unfolding run_by on_capture
     run_cut_short e (bytes, holds, stopped) =
         let r = records_in bytes in
         let xs = stopped.front ++ stopped.at ∷ [] in
         let is : r.items ≡ xs ++ stopped.back = stopped.order ∙ sym (append_assoc stopped.front (stopped.at ∷ []) stopped.back) in
-        let less : Stopped kept (by_records kept t commands r.items r.damage).acts u new e =
-        subst (λ (items : List Captured). Stopped kept (by_records kept t commands items r.damage).acts u new e) (sym is)
+        let less : Stopped kept (by_records kept x.show t commands r.items r.damage).acts u new e =
+        subst (λ (items : List Captured). Stopped kept (by_records kept x.show t commands items r.damage).acts u new e) (sym is)
         (records_stopped x t commands u old b xs stopped.back r.damage e new stopped.stops) in
         record {
           readings = Whole bytes ∷ [];
           are_read = (held_before bytes holds, tt);
-          cause = cause_stopped kept (by_records kept t commands r.items r.damage) u new e less;
+          cause = cause_stopped kept (by_records kept x.show t commands r.items r.damage) u new e less;
           blames = blames_stopped (Some name) kept _ u new e less;
           fits = λ below. absurd (not_done e below);
           later = reads_later;
@@ -363,7 +389,7 @@ module _ (x : Records) (t : Network) (commands : List Command) (u old : World) (
 
     -- memory was wanting
     pub run_memory : (y : Records) → Ran x y (records_commands []) old new ⊎ OfFile (capture_in old.contents name) (TookSome (λ xs. Ran x y (records_commands xs) old new))
-        → RunEnds (Some name) kept t commands u new OutOfMemory
+        → RunEnds (Some name) kept x.show t commands u new OutOfMemory
     unfolding run_by on_capture
     run_memory y (inl ran) = record {
       readings = Unread ∷ [];
@@ -371,7 +397,7 @@ module _ (x : Records) (t : Network) (commands : List Command) (u old : World) (
       cause = record {
         before = all_acts x t commands u old b [];
         after = [];
-        order = ap (λ cs. steps_acts kept (length commands) t (run t cs)) (sym (no_records commands)) ∙ sym (append-nil _);
+        order = ap (λ cs. steps_acts kept x.show t (run t cs)) (sym (no_records commands)) ∙ sym (append-nil _);
         done = all_done x t commands u old b y [] new ran;
       };
       blames = tt;
@@ -382,7 +408,7 @@ module _ (x : Records) (t : Network) (commands : List Command) (u old : World) (
     }
     run_memory y (inr (bytes, holds, some)) =
         let r = records_in bytes in
-        let Q : List Captured → Type 0 = λ items. StopsBefore (by_records kept t commands items r.damage).acts u new in
+        let Q : List Captured → Type 0 = λ items. StopsBefore (by_records kept x.show t commands items r.damage).acts u new in
         record {
           readings = Whole bytes ∷ [];
           are_read = (held_before bytes holds, tt);
@@ -397,13 +423,13 @@ module _ (x : Records) (t : Network) (commands : List Command) (u old : World) (
     -- all records were taken, and then the last line was written, or less of it
     pub run_finished : (y : Records) (last : World) (r : Result Bool PortError) → OfFile (capture_in old.contents name) (TookAll (λ xs. Ran x y (records_commands xs) old new) None)
         → KeepsFiles new.contents last.contents → last.reads ≡ new.reads → Works kept new last
-        → Writes (end_line (record y.counts { steps = shown y.script y.world.state.steps })) new.written last.written new.faults last.faults r
-        → IfOk r (λ forged. forged ≡ (ltb 0 y.counts.forged || ltb 0 y.counts.collided))
-        → RunEnds (Some name) kept t commands u last (end_after r)
+        → Writes (end_line (record y.tally.counts { steps = shown y.show.script y.world.state.steps })) new.written last.written new.faults last.faults r
+        → IfOk r (λ forged. forged ≡ (ltb 0 y.tally.counts.forged || ltb 0 y.tally.counts.collided) || y.tally.alarm)
+        → RunEnds (Some name) kept x.show t commands u last (end_after r)
     unfolding run_by on_capture by_records
     run_finished y last r (bytes, holds, all) keeps reads works writes alarm =
         let xs = (records_in bytes).items in
-        let P : Option Damage → Type 0 = λ damage. HasCause (by_records kept t commands xs damage) u last (end_after r) in
+        let P : Option Damage → Type 0 = λ damage. HasCause (by_records kept x.show t commands xs damage) u last (end_after r) in
         record {
           readings = Whole bytes ∷ [];
           are_read = (held_before bytes holds, tt);
@@ -416,7 +442,7 @@ module _ (x : Records) (t : Network) (commands : List Command) (u old : World) (
         }
 
 -- a capture's records bring few verdicts
-pub few_verdicts : (x y : Records) (contents : Option Files) (name : List ℕ) (old new : World) → total x.counts ≤ 66 * 524288
-    → OfFile (capture_in contents name) (TookAll (λ xs. Ran x y (records_commands xs) old new) None) → total y.counts < 2 ^ 63
+pub few_verdicts : (x y : Records) (contents : Option Files) (name : List ℕ) (old new : World) → total x.tally.counts ≤ 66 * 524288
+    → OfFile (capture_in contents name) (TookAll (λ xs. Ran x y (records_commands xs) old new) None) → total y.tally.counts < 2 ^ 63
 few_verdicts x y contents name old new low (bytes, holds, all) =
     omega (arith, low, all.taken.few, two_each (records_in bytes).items, few_records bytes)

@@ -4,6 +4,7 @@ use Rattle.std.specs.List.{list_any}
 use Rattle.std.proofs.lemmas.Bool.Decides.{nat_tests}
 use Rattle.std.proofs.lemmas.List.{take_more, drop_more, drop_all, take-append-drop}
 use Rattle.std.proofs.lemmas.List.Concat.{flat_map-append}
+use Rattle.std.proofs.lemmas.List.Folds.{list_any-append}
 use Rattle.std.proofs.lemmas.List.Sums.{sum_by-cons}
 use Rattle.epic_num.specs.declared.command.Command.{Command}
 use Rattle.epic_num.specs.declared.verdict.Verdict.{Verdict}
@@ -14,11 +15,15 @@ use Rattle.epic_text.proofs.CountLemmas.{counts_of-last}
 use Rattle.epic_model.specs.State.{State, start}
 use Rattle.epic_model.specs.Steps.{next}
 use Rattle.epic_world.specs.Run.{Done, done_by, run_from, state_after, run}
+use Rattle.epic_app.specs.Showing.{Showing}
 use Rattle.epic_app.specs.Acts.{Act}
+use Rattle.epic_app.specs.Along.{along}
 use Rattle.epic_app.specs.Doing.{step_acts, steps_acts}
+use Rattle.epic_app.specs.Noting.{shows_alarm}
 use Rattle.epic_app.specs.RunReport.{all_verdicts, verdicts_in, is_alarm}
 use Rattle.epic_app.specs.Saved.{opening}
 use Rattle.epic_app.specs.StepLines.{count_all}
+use Rattle.epic_app.proofs.AlongLaws.{along-append, along-last}
 
 -- ---- commands in two parts
 
@@ -48,12 +53,23 @@ state_last t s xs c = state_after-append t s xs (c ∷ [])
 
 -- ---- their texts and verdicts
 
-pub acts_last : (save : Option (List ℕ)) (script : ℕ) (t : Network) (s : State) (xs : List Command) (c : Command)
-    → flat_map (step_acts save script t) (run_from t s (xs ++ c ∷ [])) ≡ flat_map (step_acts save script t) (run_from t s xs) ++ step_acts save script t (done_by t (state_after t s xs) c)
-acts_last save script t s xs c =
-    ap (flat_map (step_acts save script t)) (run_last t s xs c)
-    ∙ (flat_map-append (step_acts save script t) (run_from t s xs) (done_by t (state_after t s xs) c ∷ [])
-    ∙ ap (λ acts. flat_map (step_acts save script t) (run_from t s xs) ++ acts) (append-nil (step_acts save script t (done_by t (state_after t s xs) c))))
+pub or_none : (b : Bool) → b || false ≡ b
+or_none true = refl
+or_none false = refl
+
+pub or_assoc : (x y z : Bool) → x || (y || z) ≡ (x || y) || z
+or_assoc true y z = refl
+or_assoc false y z = refl
+
+pub any_last : {A : Type 0} (f : A → Bool) (xs : List A) (y : A) → list_any f (xs ++ y ∷ []) ≡ list_any f xs || f y
+any_last f xs y = list_any-append f xs (y ∷ []) ∙ ap (λ b. list_any f xs || b) (or_none (f y))
+
+pub acts_last : (save : Option (List ℕ)) (show : Showing) (t : Network) (before : List Done) (s : State) (xs : List Command) (c : Command)
+    → along (step_acts save show t) before (run_from t s (xs ++ c ∷ []))
+    ≡ along (step_acts save show t) before (run_from t s xs) ++ step_acts save show t (before ++ run_from t s xs) (done_by t (state_after t s xs) c)
+acts_last save show t before s xs c =
+    ap (along (step_acts save show t) before) (run_last t s xs c)
+    ∙ along-last (step_acts save show t) before (run_from t s xs) (done_by t (state_after t s xs) c)
 
 pub verdicts_last : (t : Network) (s : State) (xs : List Command) (c : Command)
     → all_verdicts (run_from t s (xs ++ c ∷ [])) ≡ all_verdicts (run_from t s xs) ++ verdicts_in (next t (state_after t s xs) c).answer
@@ -63,15 +79,24 @@ verdicts_last t s xs c =
     ∙ (flat_map-append (λ (d : Done). verdicts_in d.answer) (run_from t s xs) (done_by t (state_after t s xs) c ∷ [])
     ∙ ap (λ vs. flat_map (λ (d : Done). verdicts_in d.answer) (run_from t s xs) ++ vs) (append-nil (verdicts_in (next t (state_after t s xs) c).answer)))
 
+-- a maker among them is an alarm
+pub alarms_last : (show : Showing) (t : Network) (s : State) (xs : List Command) (c : Command)
+    → list_any (shows_alarm show t) (run_from t s (xs ++ c ∷ []))
+    ≡ list_any (shows_alarm show t) (run_from t s xs) || shows_alarm show t (done_by t (state_after t s xs) c)
+alarms_last show t s xs c =
+    ap (list_any (shows_alarm show t)) (run_last t s xs c)
+    ∙ any_last (shows_alarm show t) (run_from t s xs) (done_by t (state_after t s xs) c)
+
 -- all acts, in those of a front of the commands and the rest
-pub acts_front : (save : Option (List ℕ)) (script : ℕ) (t : Network) (s : State) (xs : List Command) (c : Command) (ys : List Command)
-    → flat_map (step_acts save script t) (run_from t s (xs ++ c ∷ ys))
-    ≡ flat_map (step_acts save script t) (run_from t s xs)
-    ++ (step_acts save script t (done_by t (state_after t s xs) c) ++ flat_map (step_acts save script t) (run_from t (next t (state_after t s xs) c).state ys))
+pub acts_front : (save : Option (List ℕ)) (show : Showing) (t : Network) (before : List Done) (s : State) (xs : List Command) (c : Command) (ys : List Command)
+    → along (step_acts save show t) before (run_from t s (xs ++ c ∷ ys))
+    ≡ along (step_acts save show t) before (run_from t s xs)
+    ++ (step_acts save show t (before ++ run_from t s xs) (done_by t (state_after t s xs) c)
+    ++ along (step_acts save show t) ((before ++ run_from t s xs) ++ done_by t (state_after t s xs) c ∷ []) (run_from t (next t (state_after t s xs) c).state ys))
 unfolding run_from
-acts_front save script t s xs c ys =
-    ap (flat_map (step_acts save script t)) (run_from-append t s xs (c ∷ ys))
-    ∙ flat_map-append (step_acts save script t) (run_from t s xs) (done_by t (state_after t s xs) c ∷ run_from t (next t (state_after t s xs) c).state ys)
+acts_front save show t before s xs c ys =
+    ap (along (step_acts save show t) before) (run_from-append t s xs (c ∷ ys))
+    ∙ along-append (step_acts save show t) before (run_from t s xs) (done_by t (state_after t s xs) c ∷ run_from t (next t (state_after t s xs) c).state ys)
 
 -- ---- counts
 
@@ -108,44 +133,54 @@ unfolding count_all
 count_end c vs i all past counts = sym (ap (count_all c) (drop_all i vs past)) ∙ counts
 
 -- the acts of the opening, and of the commands up to a place
-abbrev pub acts_until : Option (List ℕ) → ℕ → Network → List Command → ℕ → List Act
-acts_until save script t cs i = opening save ++ flat_map (step_acts save script t) (run_from t start (take i cs))
+abbrev pub acts_until : Option (List ℕ) → Showing → Network → List Command → ℕ → List Act
+acts_until save show t cs i = opening save ++ along (step_acts save show t) [] (run_from t start (take i cs))
 
 -- where the commands up to a place were done, one more command is
-module _ (save : Option (List ℕ)) (script : ℕ) (t : Network) (cs : List Command) (i : ℕ) (d : Command) (within : i < length cs) where
+module _ (save : Option (List ℕ)) (show : Showing) (t : Network) (cs : List Command) (i : ℕ) (d : Command) (within : i < length cs) where
   next_front : take (i + 1) cs ≡ take i cs ++ get_or cs i d ∷ []
   next_front = take_more cs i d within
 
   pub next_state : state_after t start (take (i + 1) cs) ≡ (next t (state_after t start (take i cs)) (get_or cs i d)).state
   next_state = ap (state_after t start) next_front ∙ state_last t start (take i cs) (get_or cs i d)
 
+  pub next_steps : run_from t start (take (i + 1) cs) ≡ run_from t start (take i cs) ++ done_by t (state_after t start (take i cs)) (get_or cs i d) ∷ []
+  next_steps = ap (run_from t start) next_front ∙ run_last t start (take i cs) (get_or cs i d)
+
   pub next_verdicts : all_verdicts (run_from t start (take (i + 1) cs))
       ≡ all_verdicts (run_from t start (take i cs)) ++ verdicts_in (next t (state_after t start (take i cs)) (get_or cs i d)).answer
   next_verdicts = ap (λ xs. all_verdicts (run_from t start xs)) next_front ∙ verdicts_last t start (take i cs) (get_or cs i d)
 
+  pub next_alarm : list_any (shows_alarm show t) (run_from t start (take (i + 1) cs))
+      ≡ list_any (shows_alarm show t) (run_from t start (take i cs)) || shows_alarm show t (done_by t (state_after t start (take i cs)) (get_or cs i d))
+  next_alarm = ap (λ xs. list_any (shows_alarm show t) (run_from t start xs)) next_front ∙ alarms_last show t start (take i cs) (get_or cs i d)
+
   -- all acts begin with those that were done and those of this command
-  pub run_front : (more : List Act) × (steps_acts save script t (run t cs) ≡ acts_until save script t cs i ++ (step_acts save script t (done_by t (state_after t start (take i cs)) (get_or cs i d)) ++ more))
+  pub run_front : (more : List Act) × (steps_acts save show t (run t cs) ≡ acts_until save show t cs i
+      ++ (step_acts save show t (run_from t start (take i cs)) (done_by t (state_after t start (take i cs)) (get_or cs i d)) ++ more))
   unfolding steps_acts run
   run_front =
       let c = get_or cs i d in
       let s = state_after t start (take i cs) in
-      let front = flat_map (step_acts save script t) (run_from t start (take i cs)) in
-      let step = step_acts save script t (done_by t s c) in
-      let rest = flat_map (step_acts save script t) (run_from t (next t s c).state (drop (i + 1) cs)) in
+      let f = step_acts save show t in
+      let steps = run_from t start (take i cs) in
+      let front = along f [] steps in
+      let step = f steps (done_by t s c) in
+      let rest = along f (steps ++ done_by t s c ∷ []) (run_from t (next t s c).state (drop (i + 1) cs)) in
       let whole : cs ≡ take i cs ++ c ∷ drop (i + 1) cs = sym (take-append-drop i cs) ∙ ap (λ ys. take i cs ++ ys) (drop_more cs i d within) in
-      let steps : flat_map (step_acts save script t) (run_from t start cs) ≡ front ++ (step ++ rest) =
-      ap (λ xs. flat_map (step_acts save script t) (run_from t start xs)) whole ∙ acts_front save script t start (take i cs) c (drop (i + 1) cs) in (
+      let all : along f [] (run_from t start cs) ≡ front ++ (step ++ rest) =
+      ap (λ xs. along f [] (run_from t start xs)) whole ∙ acts_front save show t [] start (take i cs) c (drop (i + 1) cs) in (
         rest,
-        ap (λ acts. opening save ++ acts) steps ∙ sym (append_assoc (opening save) front (step ++ rest)),
+        ap (λ acts. opening save ++ acts) all ∙ sym (append_assoc (opening save) front (step ++ rest)),
       )
 
 -- all acts begin with the opening
-pub run_opening : (save : Option (List ℕ)) (script : ℕ) (t : Network) (cs : List Command) → (more : List Act) × (steps_acts save script t (run t cs) ≡ opening save ++ more)
+pub run_opening : (save : Option (List ℕ)) (show : Showing) (t : Network) (cs : List Command) → (more : List Act) × (steps_acts save show t (run t cs) ≡ opening save ++ more)
 unfolding steps_acts
-run_opening save script t cs = (_, refl)
+run_opening save show t cs = (_, refl)
 
 -- after all commands they are all acts
-pub run_whole : (save : Option (List ℕ)) (script : ℕ) (t : Network) (cs : List Command) (i : ℕ) → length cs ≤ i
-    → steps_acts save script t (run t cs) ≡ acts_until save script t cs i
+pub run_whole : (save : Option (List ℕ)) (show : Showing) (t : Network) (cs : List Command) (i : ℕ) → length cs ≤ i
+    → steps_acts save show t (run t cs) ≡ acts_until save show t cs i
 unfolding steps_acts run
-run_whole save script t cs i past = ap (λ xs. opening save ++ flat_map (step_acts save script t) (run_from t start xs)) (sym (take_all i cs past))
+run_whole save show t cs i past = ap (λ xs. opening save ++ along (step_acts save show t) [] (run_from t start xs)) (sym (take_all i cs past))

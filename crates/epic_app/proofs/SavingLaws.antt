@@ -8,7 +8,9 @@ use Rattle.epic_ports.specs.Files.{bytes_or_none}
 use Rattle.epic_text.specs.Counts.{counts_of, end_line}
 use Rattle.epic_topo.specs.Network.{Network}
 use Rattle.epic_world.specs.Run.{Done}
+use Rattle.epic_app.specs.Showing.{Showing}
 use Rattle.epic_app.specs.Acts.{Act, Print, Create, Append, after_act, appends, creates, prints}
+use Rattle.epic_app.specs.Along.{along}
 use Rattle.epic_app.specs.Captures.{shown}
 use Rattle.epic_app.specs.Doing.{run_acts, step_acts}
 use Rattle.epic_app.specs.RunReport.{all_verdicts, step_text}
@@ -101,56 +103,59 @@ unfolding appends
 of_appends name [] = tt
 of_appends name (byte ∷ text) = (refl, of_appends name text)
 
-module _ (name : List ℕ) (script : ℕ) (t : Network) where
-  of_step : (d : Done) → IsOf name (step_acts (Some name) script t d)
+module _ (name : List ℕ) (show : Showing) (t : Network) where
+  of_step : (before : List Done) (d : Done) → IsOf name (step_acts (Some name) show t before d)
   unfolding step_acts
-  of_step d = of_both name (prints (step_text script t d)) (appends (Some name) (saved_in d)) (of_prints name (step_text script t d)) (of_appends name (saved_in d))
+  of_step before d =
+      of_both name (prints (step_text show t before d)) (appends (Some name) (saved_in d)) (of_prints name (step_text show t before d)) (of_appends name (saved_in d))
 
-  added-step : (d : Done) → added (step_acts (Some name) script t d) ≡ saved_in d
+  added-step : (before : List Done) (d : Done) → added (step_acts (Some name) show t before d) ≡ saved_in d
   unfolding step_acts
-  added-step d =
-      added-append (prints (step_text script t d)) (appends (Some name) (saved_in d))
-      ∙ (ap (λ bytes. bytes ++ added (appends (Some name) (saved_in d))) (added-prints (step_text script t d)) ∙ added-appends name (saved_in d))
+  added-step before d =
+      added-append (prints (step_text show t before d)) (appends (Some name) (saved_in d))
+      ∙ (ap (λ bytes. bytes ++ added (appends (Some name) (saved_in d))) (added-prints (step_text show t before d)) ∙ added-appends name (saved_in d))
 
-  of_steps : (steps : List Done) → IsOf name (flat_map (step_acts (Some name) script t) steps)
-  of_steps [] = tt
-  of_steps (d ∷ steps) = of_both name (step_acts (Some name) script t d) (flat_map (step_acts (Some name) script t) steps) (of_step d) (of_steps steps)
+  of_steps : (before steps : List Done) → IsOf name (along (step_acts (Some name) show t) before steps)
+  of_steps before [] = tt
+  of_steps before (d ∷ steps) =
+      of_both name (step_acts (Some name) show t before d) (along (step_acts (Some name) show t) (before ++ d ∷ []) steps)
+      (of_step before d) (of_steps (before ++ d ∷ []) steps)
 
   -- they add the records of what was emitted
-  added-steps : (steps : List Done) → added (flat_map (step_acts (Some name) script t) steps) ≡ flat_map saved_record (captured_by steps)
+  added-steps : (before steps : List Done) → added (along (step_acts (Some name) show t) before steps) ≡ flat_map saved_record (captured_by steps)
   unfolding captured_by saved_in
-  added-steps [] = refl
-  added-steps (d ∷ steps) =
-      added-append (step_acts (Some name) script t d) (flat_map (step_acts (Some name) script t) steps)
-      ∙ (ap (λ bytes. bytes ++ added (flat_map (step_acts (Some name) script t) steps)) (added-step d)
-      ∙ (ap (λ bytes. flat_map saved_record (captured_in d) ++ bytes) (added-steps steps)
+  added-steps before [] = refl
+  added-steps before (d ∷ steps) =
+      added-append (step_acts (Some name) show t before d) (along (step_acts (Some name) show t) (before ++ d ∷ []) steps)
+      ∙ (ap (λ bytes. bytes ++ added (along (step_acts (Some name) show t) (before ++ d ∷ []) steps)) (added-step before d)
+      ∙ (ap (λ bytes. flat_map saved_record (captured_in d) ++ bytes) (added-steps (before ++ d ∷ []) steps)
       ∙ sym (flat_map-append saved_record (captured_in d) (flat_map captured_in steps))))
 
   -- what follows the making of the file
   rest : List Done → List Act
   rest steps =
       appends (Some name) file_head
-      ++ (flat_map (step_acts (Some name) script t) steps ++ prints (end_line (counts_of (shown script (length steps)) (all_verdicts steps))))
+      ++ (along (step_acts (Some name) show t) [] steps ++ prints (end_line (counts_of (shown show.script (length steps)) (all_verdicts steps))))
 
-  run_acts-is : (steps : List Done) → run_acts (Some name) script t steps ≡ Create name ∷ rest steps
+  run_acts-is : (steps : List Done) → run_acts (Some name) show t steps ≡ Create name ∷ rest steps
   unfolding run_acts opening creates rest appends
   run_acts-is steps = refl
 
   of_rest : (steps : List Done) → IsOf name (rest steps)
   unfolding rest appends
   of_rest steps =
-      let acts = flat_map (step_acts (Some name) script t) steps in
-      let end = end_line (counts_of (shown script (length steps)) (all_verdicts steps)) in
+      let acts = along (step_acts (Some name) show t) [] steps in
+      let end = end_line (counts_of (shown show.script (length steps)) (all_verdicts steps)) in
       of_both name (appends (Some name) file_head) (acts ++ prints end) (of_appends name file_head)
-      (of_both name acts (prints end) (of_steps steps) (of_prints name end))
+      (of_both name acts (prints end) (of_steps [] steps) (of_prints name end))
 
   added-rest : (steps : List Done) → added (rest steps) ≡ saved (captured_by steps)
   unfolding rest appends
   added-rest steps =
-      let acts = flat_map (step_acts (Some name) script t) steps in
-      let end = end_line (counts_of (shown script (length steps)) (all_verdicts steps)) in
+      let acts = along (step_acts (Some name) show t) [] steps in
+      let end = end_line (counts_of (shown show.script (length steps)) (all_verdicts steps)) in
       let last : added (acts ++ prints end) ≡ flat_map saved_record (captured_by steps) =
-      added-append acts (prints end) ∙ (ap (λ bytes. added acts ++ bytes) (added-prints end) ∙ (append-nil (added acts) ∙ added-steps steps)) in
+      added-append acts (prints end) ∙ (ap (λ bytes. added acts ++ bytes) (added-prints end) ∙ (append-nil (added acts) ∙ added-steps [] steps)) in
       added-append (appends (Some name) file_head) (acts ++ prints end)
       ∙ (ap (λ bytes. bytes ++ added (acts ++ prints end)) (added-appends name file_head) ∙ ap (λ bytes. file_head ++ bytes) last)
 
@@ -188,8 +193,8 @@ module _ (name : List ℕ) (script : ℕ) (t : Network) where
       ap (λ a. fold (after_act q) old (a ∷ before)) (sym first) ∙ made_other q old before other are
 
 pub saved_is_whole : SavedIsWhole
-saved_is_whole = λ name script t steps. record {
-  whole = λ old. ap (fold (after_act name) old) (run_acts-is name script t steps) ∙ (made name script t old (rest name script t steps) (of_rest name script t steps) ∙ ap Some (added-rest name script t steps));
-  front = λ old before after order. front_is name script t steps old before after (sym (run_acts-is name script t steps) ∙ order);
-  others = λ q old before after other order. others_stay name script t q steps old before after other (sym (run_acts-is name script t steps) ∙ order);
+saved_is_whole = λ name show t steps. record {
+  whole = λ old. ap (fold (after_act name) old) (run_acts-is name show t steps) ∙ (made name show t old (rest name show t steps) (of_rest name show t steps) ∙ ap Some (added-rest name show t steps));
+  front = λ old before after order. front_is name show t steps old before after (sym (run_acts-is name show t steps) ∙ order);
+  others = λ q old before after other order. others_stay name show t q steps old before after other (sym (run_acts-is name show t steps) ∙ order);
 }

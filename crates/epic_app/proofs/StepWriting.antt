@@ -10,10 +10,12 @@ use Rattle.epic_topo.specs.Network.{Network}
 use Rattle.epic_ledger.specs.History.{History}
 use Rattle.epic_model.specs.State.{State}
 use Rattle.epic_model.specs.Steps.{next}
-use Rattle.epic_world.specs.Run.{done_by}
+use Rattle.epic_world.specs.Run.{Done, done_by}
+use Rattle.epic_app.specs.Showing.{Showing}
 use Rattle.epic_app.specs.Acts.{Act, Does, StopsBefore, World, appends, prints, world}
 use Rattle.epic_app.specs.Captures.{shown}
 use Rattle.epic_app.specs.Doing.{step_acts}
+use Rattle.epic_app.specs.Noting.{notes_after, offers_of}
 use Rattle.epic_app.specs.Performing.{Performs, Stays, Stopped}
 use Rattle.epic_app.specs.RunReport.{answered_text, step_text}
 use Rattle.epic_app.specs.Saved.{as_captured, captured_in, saved_in}
@@ -46,11 +48,12 @@ stays_written save files reads writes old new before now later =
 
 module _ (t : Network) (s : State) (c : Command) where
   -- the lines of the answer are those of the step
-  pub lines_are : (script : ℕ) (text : List ℕ)
-      → text ≡ answered_text (shown script (next t s c).state.steps) t c (next t s c).answer (next t s c).state
-      → text ≡ step_text script t (done_by t s c)
+  pub lines_are : (show : Showing) (before : List Done) (text : List ℕ)
+      → (let n = next t s c in let number = shown show.script n.state.steps in
+      text ≡ answered_text number t c n.answer (notes_after show t number (offers_of before) c n.answer n.state) n.state)
+      → text ≡ step_text show t before (done_by t s c)
   unfolding done_by
-  lines_are script text is = is
+  lines_are show before text is = is
 
   -- the records of the emissions since are those of the step
   pub records_are : (records : List ℕ) (before moment : ℕ) (h : History)
@@ -63,10 +66,10 @@ module _ (t : Network) (s : State) (c : Command) where
       is ∙ (λ k. flat_map saved_record
       (map (as_captured (moment_is k)) (drop (before_is k) (h_is k).emissions)))
 
-module _ (save : Option (List ℕ)) (script : ℕ) (t : Network) (s : State) (c : Command)
+module _ (save : Option (List ℕ)) (show : Showing) (t : Network) (earlier : List Done) (s : State) (c : Command)
     (files : Option Files) (reads writes : List ℕ → ℕ)
     (old new : Option (List ℕ)) (before now : ℕ) (text : List ℕ)
-    (is : text ≡ step_text script t (done_by t s c)) where
+    (is : text ≡ step_text show t earlier (done_by t s c)) where
   -- the output before the lines, and after them
   abbrev u : World
   u = world files reads writes old before
@@ -76,10 +79,10 @@ module _ (save : Option (List ℕ)) (script : ℕ) (t : Network) (s : State) (c 
 
   -- less of the lines was written
   pub lines_stopped : (e : PortError) → Stops text old new before now e
-      → Stopped save (step_acts save script t (done_by t s c)) u v e
+      → Stopped save (step_acts save show t earlier (done_by t s c)) u v e
   unfolding step_acts
   lines_stopped e stops =
-      let lines = step_text script t (done_by t s c) in
+      let lines = step_text show t earlier (done_by t s c) in
       stopped_more save (prints lines) (appends save (saved_in (done_by t s c))) u v e
       (prints_performed {X = ℕ} save lines u v (Err e) (keeps_all files)
       (subst (λ (x : List ℕ). Stops x old new before now e) is stops))
@@ -88,10 +91,10 @@ module _ (save : Option (List ℕ)) (script : ℕ) (t : Network) (s : State) (c 
   pub step_performed : {X : Type 0} (records : List ℕ) (w : World) (r : Result X PortError)
       → records ≡ saved_in (done_by t s c) → Appends old new text → before ≤ now
       → Performs save (appends save records) v w r
-      → Performs save (step_acts save script t (done_by t s c)) u w r
+      → Performs save (step_acts save show t earlier (done_by t s c)) u w r
   unfolding step_acts
   step_performed records w r same written later saved =
-      let acts : prints text ++ appends save records ≡ step_acts save script t (done_by t s c)
+      let acts : prints text ++ appends save records ≡ step_acts save show t earlier (done_by t s c)
       = λ k. prints (is k) ++ appends save (same k) in
       subst (λ (a : List Act). Performs save a u w r) acts
       (performs_after save (prints text) (appends save records) u v w r

@@ -1,6 +1,7 @@
 -- The answers of steps can be told, and have few verdicts.
 use Rattle.std.proofs.Common.{◌≡◌, ℕ, ◌+◌, ◌*◌, ◌/◌, ◌^◌, ◌<◌, ◌≤◌, inl, inr, Bool, true, false, not, List, [], ◌∷◌, ◌++◌, length, Option, None, Some, Ok, Err, IsTrue, refl, ap, sym, subst, ◌∙◌, arith}
 use Rattle.std.specs.Prelude.{nat_lt, if◌then◌else◌, Result, option_map, ⊤}
+use Rattle.std.specs.List.{All}
 use Rattle.std.specs.Option.{option_map_or}
 use Rattle.std.proofs.lemmas.Bool.{cond_both, not-false}
 use Rattle.arrayvec.specs.ArrayVec.{ArrayVec}
@@ -56,7 +57,9 @@ use Rattle.epic_model.proofs.InvIssued.{inv_issues}
 use Rattle.epic_model.proofs.InvKept.{there_fits}
 use Rattle.epic_text.specs.Report.{IsKnownHop, IsToldAnswer, emission_bytes, bytes_in}
 use Rattle.epic_app.specs.RunReport.{verdicts_in}
-use Rattle.epic_app.proofs.ToldPasses.{verdicts_of, shown_told, passed_told, passed_stays, bytes_stay, all_carried_told, few_carried}
+use Rattle.epic_app.specs.Noting.{passes_after, passes_told}
+use Rattle.epic_app.specs.Policed.{IsNotablePass}
+use Rattle.epic_app.proofs.ToldPasses.{AreNotable, all_notable, verdicts_of, shown_told, shown_notable, passed_told, passed_stays, bytes_stay, all_carried_told, few_carried}
 
 -- ---- what is kept
 
@@ -84,9 +87,11 @@ AreFew answer.Revealed = ⊤
 AreFew (answer.Rolled generation) = ⊤
 AreFew (answer.Refused refusal) = ⊤
 
--- the answer of a step can be told, where these bytes came, and has few verdicts
+-- the answer of a step can be told and noted, where these bytes came, and has few verdicts
 abbrev IsTold : Network → List ℕ → Stepped → Type 0
-IsTold t came n = IsToldAnswer t n.state.history came n.answer × AreFew n.answer
+IsTold t came n =
+    IsToldAnswer t n.state.history came n.answer
+    × (AreFew n.answer × AreNotable t (emission_bytes n.state.history.emissions) came (passes_told n.answer))
 
 -- ---- issues
 
@@ -114,9 +119,9 @@ issued_told t s came out exp (Ok b) topology out_fits exp_fits w is =
       known_hop t (name_of (issues_in (s.history.events ++ e ∷ [])) number) b.name
           (ap (option_map (λ (k : Issue). k.name)) there)
           (inv.sound.kept.issues number i there).known,
-      tt,
+      (tt, tt),
     )
-issued_told t s came out exp (Err e) topology out_fits exp_fits w is = (tt, tt)
+issued_told t s came out exp (Err e) topology out_fits exp_fits w is = (tt, (tt, tt))
 
 originate_told : (t : Network) (s : State) (came : List ℕ) (a : AsId) (out exp : ℕ) → IsTopology t
     → (out < 2 ^ 16) × (exp < 2 ^ 8) → IsWorld t s
@@ -125,7 +130,7 @@ unfolding next_originate
 originate_told t s came a out exp topology fits w =
     cond_both (not (has t a)) (refused s (UnknownAs a))
     (issued s (originated t (store_in t s.history) a out exp s.moment)) (IsTold t came)
-    (λ _. (tt, tt))
+    (λ _. (tt, (tt, tt)))
     (λ _. issued_told t s came out exp
     (originated t (store_in t s.history) a out exp s.moment) topology fits.0 fits.1 w
     (λ b e. inl (a, e)))
@@ -143,7 +148,7 @@ extend_told t s came parent out exp topology fits w =
 
 at_told : (t : Network) (s : State) (came : List ℕ) (moment : ℕ) → IsTold t came (next_at s moment)
 unfolding next_at
-at_told t s came moment = (tt, tt)
+at_told t s came moment = (tt, (tt, tt))
 
 fetch_told : (t : Network) (s : State) (came : List ℕ) (source owner : AsId) (epoch : ℕ)
     → IsTold t came (next_fetch t s source owner epoch)
@@ -158,10 +163,10 @@ fetch_told t s came source owner epoch =
         else if not b then refused s (UnknownAs owner)
         else if c then answered s Known
         else recorded s (event.Fetch (s.steps + 1) source owner epoch) Fetched)
-    by false b c = (tt, tt)
-    by true false c = (tt, tt)
-    by true true true = (tt, tt)
-    by true true false = (tt, tt)
+    by false b c = (tt, (tt, tt))
+    by true false c = (tt, (tt, tt))
+    by true true true = (tt, (tt, tt))
+    by true true false = (tt, (tt, tt))
 
 paths_told : (t : Network) (s : State) (came : List ℕ) (from to : AsId)
     → IsTold t came (next_paths t s from to)
@@ -173,11 +178,11 @@ paths_told t s came from to = by (has t from) (has t to)
         → IsTold t came
         (if not a then refused s (UnknownAs from) else if not b then refused s
         (UnknownAs to) else found s paths)
-    by false b paths = (tt, tt)
-    by true false paths = (tt, tt)
+    by false b paths = (tt, (tt, tt))
+    by true false paths = (tt, (tt, tt))
     by true true paths =
         cond_both (nat_lt most_paths (length paths)) (refused s TooManyPaths)
-        (answered s (Paths paths)) (IsTold t came) (λ _. (tt, tt)) (λ _. (tt, tt))
+        (answered s (Paths paths)) (IsTold t came) (λ _. (tt, (tt, tt))) (λ _. (tt, (tt, tt)))
 
 reveal_told : (t : Network) (s : State) (came : List ℕ) (holder : Holder)
     → IsTold t came (next_reveal t s holder)
@@ -189,9 +194,9 @@ reveal_told t s came holder = by (has t (as_of holder))
         → IsTold t came (if not a then refused s (UnknownAs (as_of holder))
         else if b then answered s Known
         else recorded s (event.Reveal (s.steps + 1) holder) Revealed)
-    by false b = (tt, tt)
-    by true true = (tt, tt)
-    by true false = (tt, tt)
+    by false b = (tt, (tt, tt))
+    by true true = (tt, (tt, tt))
+    by true false = (tt, (tt, tt))
 
 roll_told : (t : Network) (s : State) (came : List ℕ) (a : AsId) → IsTold t came (next_roll t s a)
 unfolding next_roll
@@ -199,7 +204,7 @@ roll_told t s came a =
     let generation = rolls s.history.events a + 1 in
     cond_both (not (has t a)) (refused s (UnknownAs a))
     (recorded s (event.Roll (s.steps + 1) a generation) (Rolled generation)) (IsTold t came)
-    (λ _. (tt, tt)) (λ _. (tt, tt))
+    (λ _. (tt, (tt, tt))) (λ _. (tt, (tt, tt)))
 
 emitted_told : (t : Network) (s : State) (came : List ℕ) (numbers : ArrayVec ℕ) (p : Contents)
     → IsTold t came (emitted_by s numbers p)
@@ -219,7 +224,7 @@ emitted_told t s came numbers p =
       passages = [];
     })
     (IsTold t came)
-    (λ _. (tt, tt)) (λ _. (tt, tt))
+    (λ _. (tt, (tt, tt))) (λ _. (tt, (tt, tt)))
 
 module _ (t : Network) (s : State) (came : List ℕ) (version : ℕ) (level : Level) (src dst : HostId)
     (numbers : ArrayVec ℕ) (payload : List ℕ) where
@@ -227,17 +232,17 @@ module _ (t : Network) (s : State) (came : List ℕ) (version : ℕ) (level : Le
       → IsTold t came (sent_by t s version level src dst numbers payload legs told)
   sent_told legs (Ok ts) = emitted_told t s came numbers
       (sent_packet t legs version level src dst ts payload)
-  sent_told legs (Err e) = (tt, tt)
+  sent_told legs (Err e) = (tt, (tt, tt))
 
   over_path_told : (told : Result (List Leg) PathError)
       → IsTold t came (over_path t s version level src dst numbers payload told)
   over_path_told (Ok legs) = sent_told legs (admission t s version level src dst payload legs)
-  over_path_told (Err e) = (tt, tt)
+  over_path_told (Err e) = (tt, (tt, tt))
 
   over_segments_told : (told : Result (List Segment) ℕ)
       → IsTold t came (over_segments t s version level src dst numbers payload told)
   over_segments_told (Ok segments) = over_path_told (joined src.asn segments)
-  over_segments_told (Err n) = (tt, tt)
+  over_segments_told (Err n) = (tt, (tt, tt))
 
   send_told : IsTold t came (next_send t s version level src dst numbers payload)
   unfolding next_send
@@ -248,8 +253,8 @@ module _ (t : Network) (s : State) (came : List ℕ) (version : ℕ) (level : Le
           else if not b then refused s (UnknownAs dst.asn)
           else over_segments t s version level src dst numbers payload
           (segments_of (beacons_in t (issues_in s.history.events)) numbers.items))
-      by false b = (tt, tt)
-      by true false = (tt, tt)
+      by false b = (tt, (tt, tt))
+      by true false = (tt, (tt, tt))
       by true true = over_segments_told
           (segments_of (beacons_in t (issues_in s.history.events)) numbers.items)
 
@@ -265,7 +270,10 @@ passing_told t s place bytes due read w =
     (later t s w).sound in (
       shown_told t
           (record { before = s.history; place = place; came = bytes; happened = d }) told,
-      few_passed told.few,
+      (
+        few_passed told.few,
+        (shown_notable t (record { before = s.history; place = place; came = bytes; happened = d }) told, tt),
+      ),
     )
 
 turn_step_told : (t : Network) (s : State) (a : AsId) (iface : ℕ) (bytes : List ℕ) → IsBytes bytes
@@ -274,7 +282,7 @@ unfolding next_turn
 turn_step_told t s a iface bytes are w =
     cond_both (not (has t a)) (refused s (UnknownAs a)) (passing t s (Router a iface) bytes)
     (IsTold t bytes)
-    (λ _. (tt, tt))
+    (λ _. (tt, (tt, tt)))
     (λ known. passing_told t s (Router a iface) bytes (not-false (has t a) known)
     (bytes_are_read bytes are) w)
 
@@ -284,7 +292,7 @@ unfolding next_arrive
 arrive_step_told t s d bytes are w =
     cond_both (not (has t d.asn)) (refused s (UnknownAs d.asn)) (passing t s (Host d) bytes)
     (IsTold t bytes)
-    (λ _. (tt, tt))
+    (λ _. (tt, (tt, tt)))
     (λ known. passing_told t s (Host d) bytes (not-false (has t d.asn) known)
     (bytes_are_read bytes are) w)
 
@@ -311,7 +319,7 @@ pass_step_told t s number w = by (emission_at s.history.emissions number) refl
     by : (o : Option Emission) → emission_at s.history.emissions number ≡ o
         → IsToldOf t number
         (option_map_or (λ e. passing t s e.place e.bytes) o (refused s (UnknownEmission number)))
-    by None e = (tt, tt)
+    by None e = (tt, (tt, tt))
     by (Some x) e = passing_of t s number x e w
 
 carry_step_told : (t : Network) (s : State) (number : ℕ) → IsTopology t → IsWorld t s
@@ -322,12 +330,12 @@ carry_step_told t s number topology w = by (emission_at s.history.emissions numb
     by : (o : Option Emission)
         → IsToldOf t number
         (option_map_or (λ e. carrying t s number) o (refused s (UnknownEmission number)))
-    by None = (tt, tt)
+    by None = (tt, (tt, tt))
     by (Some x) =
         let told = all_carried_told t (s.steps + 1) s.moment 33 s.history number topology
         (later t s w) in
         let many = few_carried t (s.steps + 1) s.moment 33 s.history number in
-        (told.told, few_all told.few many)
+        (told.told, (few_all told.few many, told.notable))
 
 -- ---- all steps
 
@@ -376,4 +384,13 @@ few_in (answer.Refused refusal) few = omega arith
 pub answers_are_few : (t : Network) (s : State) (c : Command) → IsTopology t → Fits c → IsWorld t s
     → length (verdicts_in (next t s c).answer) ≤ most_verdicts
 answers_are_few t s c topology fits w = few_in (next t s c).answer
-    (all_told t s c topology fits w).1
+    (all_told t s c topology fits w).1.0
+
+-- The passes of every answer can be noted.
+pub answers_are_notable : (t : Network) (s : State) (c : Command) → IsTopology t → Fits c → IsWorld t s
+    → (let n = next t s c in All (IsNotablePass t) (passes_after c n.answer n.state))
+unfolding passes_after
+answers_are_notable t s c topology fits w =
+    let n = next t s c in
+    let emissions = emission_bytes n.state.history.emissions in
+    all_notable t emissions (bytes_in emissions c) (passes_told n.answer) (all_told t s c topology fits w).1.1

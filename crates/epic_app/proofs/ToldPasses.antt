@@ -1,6 +1,6 @@
 -- What became of a packet can be told, and the passes of a carry over the ledger after them.
 use Rattle.std.proofs.Common.{◌≡◌, ℕ, zero, suc, ◌+◌, ◌*◌, ◌<◌, ◌≤◌, Bool, true, false, List, [], ◌∷◌, ◌++◌, length, take, map, Option, None, Some, IsTrue, refl, ap, sym, subst, ◌∙◌, arith, length-take, length-append}
-use Rattle.std.specs.Prelude.{◌==◌, nat_lt, if◌then◌else◌, IsSome}
+use Rattle.std.specs.Prelude.{◌==◌, nat_lt, if◌then◌else◌, IsSome, ⊤}
 use Rattle.std.specs.List.{All, flat_map}
 use Rattle.std.specs.Option.{option_map_or}
 use Rattle.std.proofs.lemmas.Bool.{cond_both}
@@ -28,7 +28,7 @@ use Rattle.epic_router.specs.Candidates.{candidates_of}
 use Rattle.epic_router.specs.Leaving.{packet_after}
 use Rattle.epic_router.specs.Remembering.{key_at}
 use Rattle.epic_router.specs.RightTurns.{IsAccepted, IsRightTurn}
-use Rattle.epic_router.proofs.Right.{turns_are_right, few_hops}
+use Rattle.epic_router.proofs.Right.{turns_are_right, few_hops, some_hops}
 use Rattle.epic_ends.specs.RightArrivals.{IsAtEnd, IsRightArrival}
 use Rattle.epic_ends.proofs.Arrivals.{arrivals_are_right}
 use Rattle.epic_window.specs.Entries.{told_of}
@@ -47,19 +47,23 @@ use Rattle.epic_model.proofs.InvKept.{inv_passes, there_fits}
 use Rattle.epic_model.proofs.Once.{after_turn, after_arrival}
 use Rattle.epic_text.specs.Report.{IsToldPass, IsToldCarry, emission_bytes}
 use Rattle.epic_text.specs.VerdictText.{IsTellable}
+use Rattle.epic_app.specs.Noting.{coming}
+use Rattle.epic_app.specs.Policed.{IsNotable, IsNotableTurn, IsNotableAt, IsNotablePass}
 use Rattle.epic_app.proofs.ToldVerdicts.{hops_told, hops_counted, dest_told}
 
 -- ---- passes
 
--- what became of bytes can be told, and has two verdicts at most
-pub record Tellable (t : Network) (bytes : List ℕ) (d : Happened) : Type 0 where
+-- what became of bytes at a place can be told and noted, and has two verdicts at most
+pub record Tellable (t : Network) (place : Place) (bytes : List ℕ) (d : Happened) : Type 0 where
+  pub notable : IsNotableAt t bytes d.result place
   pub packet : 0 < length d.verdicts → fault is_first_byte bytes ≡ None
   pub verdicts : All (IsTellable t (parse bytes)) d.verdicts
   pub few : length d.verdicts ≤ 2
 
 -- nothing was accepted
-none_told : (t : Network) (bytes : List ℕ) (d : Happened) → d.verdicts ≡ [] → Tellable t bytes d
-none_told t bytes d none = record {
+none_told : (t : Network) (place : Place) (bytes : List ℕ) (d : Happened) → IsNotableAt t bytes d.result place → d.verdicts ≡ [] → Tellable t place bytes d
+none_told t place bytes d notable none = record {
+  notable = notable;
   packet = λ some. absurd (let long = ap length none in omega (arith, some, long));
   verdicts = subst (All (IsTellable t (parse bytes))) (sym none)
       (All-nil (IsTellable t (parse bytes)));
@@ -71,17 +75,34 @@ module _ (t : Network) (step now : ℕ) (h : History) (a : AsId) (iface : ℕ) (
   tells : Told
   tells = told_of t.profile (router_window h a) now (key_at (parse bytes) (parse bytes).current)
 
+  accepted_notable : (turn : Turn) (hops : ℕ) (generations : List ℕ)
+      → IsAccepted t a (candidates_of (rolls h.events a)) iface now tells bytes turn hops generations
+      → IsNotable t a bytes hops generations
+  accepted_notable turn hops generations acc =
+      let p = parse bytes in
+      record {
+        known = here;
+        faultless = acc.faultless;
+        packet = read acc.faultless;
+        some = omega (arith, acc.hops_are, some_hops p p.current);
+        few = omega (arith, acc.hops_are, few_hops p p.current);
+        within = acc.there;
+        accepted = λ i below. record { field_right = (acc.each i below).field_is; link_right = (acc.each i below).link_is };
+      }
+
   left_told : (turn : Turn) (due : Place) (hops : ℕ) (generations : List ℕ)
       → IsAccepted t a
       (candidates_of (rolls h.events a)) iface now tells bytes turn hops generations
-      → Tellable t bytes (left t step h a bytes turn due (take hops generations))
+      → IsNotableTurn t a bytes turn
+      → Tellable t (Router a iface) bytes (left t step h a bytes turn due (take hops generations))
   unfolding left
-  left_told turn due hops generations acc =
+  left_told turn due hops generations acc notable =
       let p = parse bytes in
       let gs = take hops generations in
       let long = length-take hops generations in
       let counted = hops_counted t (facts_of h) a p p.current gs in
       record {
+        notable = notable;
         packet = λ _. acc.faultless;
         verdicts = hops_told t (facts_of h) a p p.current gs sound.kept here
             (omega (arith, long, acc.there));
@@ -90,33 +111,34 @@ module _ (t : Network) (step now : ℕ) (h : History) (a : AsId) (iface : ℕ) (
 
   turn_told : (turn : Turn)
       → IsRightTurn t a (candidates_of (rolls h.events a)) iface now tells bytes turn
-      → Tellable t bytes (turned_by t step h a bytes turn)
+      → Tellable t (Router a iface) bytes (turned_by t step h a bytes turn)
   unfolding turned_by
   turn_told (Forward out hops generations) right = left_told (Forward out hops generations)
-      (due_behind t a out) hops generations right.0
+      (due_behind t a out) hops generations right.0 (accepted_notable (Forward out hops generations) hops generations right.0)
   turn_told (Deliver host hops generations) right = left_told (Deliver host hops generations)
-      (Host (record { asn = a; host = host })) hops generations right.0
-  turn_told (Refused check hop) right = none_told t bytes _ refl
+      (Host (record { asn = a; host = host })) hops generations right.0 (accepted_notable (Deliver host hops generations) hops generations right.0)
+  turn_told (Refused check hop) right = none_told t (Router a iface) bytes _ tt refl
 
-  turned_told : Tellable t bytes (turned_at t step now h a iface bytes)
+  turned_told : Tellable t (Router a iface) bytes (turned_at t step now h a iface bytes)
   unfolding turned_at answer_at tells
   turned_told =
       cond_both (nat_lt most_emitted (emitted h.emissions + length bytes)) (nothing h Full)
-      (turned_by t step h a bytes (answer_at t now h a iface bytes)) (Tellable t bytes)
-      (λ _. none_told t bytes _ refl)
+      (turned_by t step h a bytes (answer_at t now h a iface bytes)) (Tellable t (Router a iface) bytes)
+      (λ _. none_told t (Router a iface) bytes _ tt refl)
       (λ _. turn_told (answer_at t now h a iface bytes)
       (turns_are_right t a (candidates_of (rolls h.events a)) iface now tells bytes read))
 
 module _ (t : Network) (step now : ℕ) (h : History) (d : HostId) (bytes : List ℕ)
     (here : IsTrue (has t d.asn)) (read : IsRead bytes) (sound : IsSound t h step) where
   end_told : (answer : Arrival) (checked : Bool) → IsAtEnd d bytes
-      → Tellable t bytes (arrives t step h d (parse bytes) answer checked)
+      → Tellable t (Host d) bytes (arrives t step h d (parse bytes) answer checked)
   unfolding arrives
   end_told answer checked end =
       let p = parse bytes in
       let there : IsTrue (has t p.dst.asn) = subst (λ (e : HostId). IsTrue (has t e.asn))
       (sym end.host_is) here in
       record {
+        notable = tt;
         packet = λ _. end.faultless;
         verdicts = All-cons (IsTellable t p) (dest_verdict t (facts_of h) p) []
             (dest_told t (facts_of h) p (lawful_packets h sound.lawful) sound.kept
@@ -125,13 +147,13 @@ module _ (t : Network) (step now : ℕ) (h : History) (d : HostId) (bytes : List
       }
 
   arrival_told : (knows : Told) (answer : Arrival) → IsRightArrival t d now knows bytes answer
-      → Tellable t bytes (arrived_by t step h d bytes answer)
+      → Tellable t (Host d) bytes (arrived_by t step h d bytes answer)
   unfolding arrived_by
   arrival_told knows arrival.Accepted right = end_told arrival.Accepted true right.0
   arrival_told knows arrival.Unchecked right = end_told arrival.Unchecked false right.0
-  arrival_told knows (arrival.Refused check) right = none_told t bytes _ refl
+  arrival_told knows (arrival.Refused check) right = none_told t (Host d) bytes _ tt refl
 
-  arrived_told : Tellable t bytes (arrived_at t step now h d bytes)
+  arrived_told : Tellable t (Host d) bytes (arrived_at t step now h d bytes)
   unfolding arrived_at arrival_at
   arrived_told =
       let knows = told_of t.profile (host_window h d) now
@@ -140,17 +162,35 @@ module _ (t : Network) (step now : ℕ) (h : History) (d : HostId) (bytes : List
 
 pub passed_told : (t : Network) (step now : ℕ) (h : History) (place : Place) (bytes : List ℕ)
     → IsDue t place → IsRead bytes → IsSound t h step
-    → Tellable t bytes (pass_at t step now h place bytes)
+    → Tellable t place bytes (pass_at t step now h place bytes)
 unfolding pass_at
 passed_told t step now h (Router a iface) bytes due read sound
     = turned_told t step now h a iface bytes due read sound
 passed_told t step now h (Host d) bytes due read sound
     = arrived_told t step now h d bytes due read sound
 
-pub shown_told : (t : Network) (x : Passage) → Tellable t x.came x.happened
+pub shown_told : (t : Network) (x : Passage) → Tellable t x.place x.came x.happened
     → IsToldPass t x.came (shown x)
 unfolding shown
 shown_told t x told = record { packet = told.packet; verdicts = told.verdicts }
+
+pub shown_notable : (t : Network) (x : Passage) → Tellable t x.place x.came x.happened
+    → IsNotablePass t (record { came = x.came; passed = shown x })
+unfolding shown
+shown_notable t x told = told.notable
+
+-- passes can be noted, each over what the one before it emitted
+abbrev pub AreNotable : Network → (ℕ → List ℕ) → List ℕ → List Passed → Type 0
+AreNotable t emissions came [] = ⊤
+AreNotable t emissions came (passed ∷ more) =
+    IsNotablePass t (record { came = came; passed = passed }) × AreNotable t emissions (emissions passed.emission) more
+
+pub all_notable : (t : Network) (emissions : ℕ → List ℕ) (came : List ℕ) (passes : List Passed)
+    → AreNotable t emissions came passes → All (IsNotablePass t) (coming emissions came passes)
+all_notable t emissions came [] notable = All-nil (IsNotablePass t)
+all_notable t emissions came (passed ∷ more) (first, rest) =
+    All-cons (IsNotablePass t) (record { came = came; passed = passed }) (coming emissions (emissions passed.emission) more)
+    first (all_notable t emissions (emissions passed.emission) more rest)
 
 -- ---- emissions stay
 
@@ -197,11 +237,13 @@ pub record CarryTold (t : Network) (h : History) (number : ℕ) (ds : List Happe
   pub stays : Stays h.emissions (last_history h ds).emissions
   pub told : (let es = (last_history h ds).emissions in IsToldCarry t (emission_bytes es)
       (emission_bytes es number) (map shown (passages_of h number ds)))
+  pub notable : (let es = (last_history h ds).emissions in AreNotable t (emission_bytes es)
+      (emission_bytes es number) (map shown (passages_of h number ds)))
   pub few : length (verdicts_of (map shown (passages_of h number ds))) ≤ 2 * length ds
 
 none_carried : (t : Network) (h : History) (number : ℕ) → CarryTold t h number []
 unfolding passages_of
-none_carried t h number = record { stays = λ n some. refl; told = tt; few = omega arith }
+none_carried t h number = record { stays = λ n some. refl; told = tt; notable = tt; few = omega arith }
 
 -- the passage of an emission, and what became of it
 abbrev passage : History → Emission → Happened → Passage
@@ -229,12 +271,13 @@ missing_carried t h number none =
     record {
       stays = λ n some. refl;
       told = subst (λ ps. IsToldCarry t bytes (bytes number) (map shown ps)) (sym is) tt;
+      notable = subst (λ ps. AreNotable t bytes (bytes number) (map shown ps)) (sym is) tt;
       few = subst (λ ps. length (verdicts_of (map shown ps)) ≤ 2) (sym is) (omega arith);
     }
 
 one_carried : (t : Network) (h : History) (number : ℕ) (x : Emission) (d : Happened)
     (ds : List Happened)
-    → emission_at h.emissions number ≡ Some x → Tellable t x.bytes d
+    → emission_at h.emissions number ≡ Some x → Tellable t x.place x.bytes d
     → Stays h.emissions d.history.emissions
     → CarryTold t d.history d.emission ds → CarryTold t h number (d ∷ ds)
 unfolding shown
@@ -246,6 +289,9 @@ one_carried t h number x d ds there told stays rest =
     let first : IsToldPass t (bytes number) (shown (passage h x d))
     = subst (λ came. IsToldPass t came (shown (passage h x d)))
     (sym (bytes_stay h.emissions es number x all there)) (shown_told t (passage h x d) told) in
+    let noted : IsNotablePass t (record { came = bytes number; passed = shown (passage h x d) })
+    = subst (λ came. IsNotablePass t (record { came = came; passed = shown (passage h x d) }))
+    (sym (bytes_stay h.emissions es number x all there)) (shown_notable t (passage h x d) told) in
     let more = verdicts_of (map shown (passages_of d.history d.emission ds)) in
     let both = length-append d.verdicts more in
     record {
@@ -253,6 +299,9 @@ one_carried t h number x d ds there told stays rest =
       told =
           subst (λ ps. IsToldCarry t bytes (bytes number) (map shown ps)) (sym is)
           (first, rest.told);
+      notable =
+          subst (λ ps. AreNotable t bytes (bytes number) (map shown ps)) (sym is)
+          (noted, rest.notable);
       few =
           subst (λ ps. length (verdicts_of (map shown ps)) ≤ 2 * suc (length ds)) (sym is)
           (omega (arith, both, told.few, rest.few));

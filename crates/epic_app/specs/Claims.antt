@@ -21,12 +21,13 @@ use Rattle.epic_app.specs.declared.hop_answer.HopAnswer.{HopAnswer}
 use Rattle.epic_app.specs.declared.hop_file.HopCommand.{HopCommand}
 use Rattle.epic_app.specs.Acts.{World}
 use Rattle.epic_app.specs.Captures.{run_commands}
+use Rattle.epic_app.specs.Doing.{showing}
 use Rattle.epic_app.specs.Generating.{gen_text, generated_steps}
 use Rattle.epic_app.specs.HopFile.{hop_rule}
 use Rattle.epic_app.specs.HopReport.{AllHold, is_forged, report_text}
 use Rattle.epic_app.specs.Readings.{Holds}
 use Rattle.epic_words.specs.Request.{Request, Hop, Run, Gen, RunRequest, request_of}
-use Rattle.epic_app.specs.RunReport.{run_text, has_alarm}
+use Rattle.epic_app.specs.RunReport.{run_text, has_alarm, run_alarms}
 use Rattle.epic_app.specs.Saved.{captured_by}
 
 -- the file holds commands; the lines are those of answers, each of which holds; status 1 tells that one is forged
@@ -68,8 +69,8 @@ pub record RunHolds (r : RunRequest) (old new : World) (status : ℕ) : Type 0 w
   pub are_records : HoldsRecords r.capture old.contents records
   pub steps : All (StepHolds network) (run network (run_commands commands records))
   pub last : StateHolds network (state_after network start (run_commands commands records))
-  pub report : Appends old.written new.written (run_text (length commands) network (run network (run_commands commands records)))
-  pub alarm : (status ≡ 1) ↔ IsTrue (has_alarm (run network (run_commands commands records)))
+  pub report : Appends old.written new.written (run_text (showing r (length commands)) network (run network (run_commands commands records)))
+  pub alarm : (status ≡ 1) ↔ IsTrue (run_alarms (showing r (length commands)) network (run network (run_commands commands records)))
   pub saved : Saves r.save (captured_by (run network (run_commands commands records))) old.contents new.contents
 
 -- The two lines are those of the generated commands' steps over the generated topology, whose text `run` reads as it. Each step goes on

@@ -14,7 +14,9 @@ use Rattle.epic_text.specs.RunScript.{run_rule}
 use Rattle.epic_text.specs.Script.{Fault, Rule, commands_of}
 use Rattle.epic_world.specs.Run.{Done, run}
 use Rattle.epic_app.specs.declared.hop_file.HopCommand.{HopCommand}
+use Rattle.epic_app.specs.Showing.{Showing}
 use Rattle.epic_app.specs.Acts.{Act, appends, prints}
+use Rattle.epic_app.specs.Along.{along}
 use Rattle.epic_app.specs.Captures.{run_commands, shown}
 use Rattle.epic_app.specs.FaultLines.{capture_line, fault_line, long_topology_line, read_line, too_long_line, topology_line}
 use Rattle.epic_app.specs.Generating.{gen_text, generated_steps}
@@ -22,8 +24,8 @@ use Rattle.epic_app.specs.HopFile.{hop_rule}
 use Rattle.epic_app.specs.HopReport.{answers, hop_report, is_forged}
 use Rattle.epic_app.specs.Limits.{file_limit, script_limit, topology_limit}
 use Rattle.epic_app.specs.Readings.{Reading, Whole, Failed, Unread}
-use Rattle.epic_words.specs.Request.{Request, Hop, Run, Gen}
-use Rattle.epic_app.specs.RunReport.{all_verdicts, has_alarm, step_text}
+use Rattle.epic_words.specs.Request.{Request, Hop, Run, Gen, RunRequest}
+use Rattle.epic_app.specs.RunReport.{all_verdicts, has_alarm, run_alarms, step_text}
 use Rattle.epic_app.specs.Saved.{opening, saved_in}
 
 pub record Progress : Type 0 where
@@ -80,47 +82,55 @@ unfoldable pub hop_done : List ℕ → List HopCommand → Progress
 hop_done key commands =
     ends (prints (hop_report key commands)) (alarm_status (nat_lt 0 (count_by is_forged (answers key commands)))) []
 
--- the lines of a step are written, and then what it emitted is saved
-unfoldable pub step_acts : Option (List ℕ) → ℕ → Network → Done → List Act
-step_acts save script t d = prints (step_text script t d) ++ appends save (saved_in d)
+-- the lines of a step behind others are written, and then what it emitted is saved
+unfoldable pub step_acts : Option (List ℕ) → Showing → Network → List Done → Done → List Act
+step_acts save show t before d = prints (step_text show t before d) ++ appends save (saved_in d)
 
 -- the saved file is opened, and the steps are done
-unfoldable pub steps_acts : Option (List ℕ) → ℕ → Network → List Done → List Act
-steps_acts save script t steps = opening save ++ flat_map (step_acts save script t) steps
+unfoldable pub steps_acts : Option (List ℕ) → Showing → Network → List Done → List Act
+steps_acts save show t steps = opening save ++ along (step_acts save show t) [] steps
 
 -- so, and at the end the line with the counts is written
-unfoldable pub run_acts : Option (List ℕ) → ℕ → Network → List Done → List Act
-run_acts save script t steps =
+unfoldable pub run_acts : Option (List ℕ) → Showing → Network → List Done → List Act
+run_acts save show t steps =
     opening save
-    ++ (flat_map (step_acts save script t) steps ++ prints (end_line (counts_of (shown script (length steps)) (all_verdicts steps))))
+    ++ (along (step_acts save show t) [] steps ++ prints (end_line (counts_of (shown show.script (length steps)) (all_verdicts steps))))
+
+-- how the steps are shown of a run with these words, whose script has so many
+abbrev pub showing : RunRequest → ℕ → Showing
+showing r script = record { script = script; makers = r.makers; police = r.police }
 
 -- the script's commands and then those of records are done one after the other
-unfoldable pub run_done : Option (List ℕ) → Network → List Command → List Captured → Progress
-run_done save t commands records =
+unfoldable pub run_done : Option (List ℕ) → Showing → Network → List Command → List Captured → Progress
+run_done save show t commands records =
     let steps = run t (run_commands commands records) in
-    ends (run_acts save (length commands) t steps) (alarm_status (has_alarm steps)) []
+    ends (run_acts save show t steps) (alarm_status (run_alarms show t steps)) []
 
 -- they are done, but then the run ends without its last line
-unfoldable pub run_cut : Option (List ℕ) → Network → List Command → List Captured → ℕ → List ℕ → Progress
-run_cut save t commands records status line =
-    ends (steps_acts save (length commands) t (run t (run_commands commands records))) status line
+unfoldable pub run_cut : Option (List ℕ) → Showing → Network → List Command → List Captured → ℕ → List ℕ → Progress
+run_cut save show t commands records status line =
+    ends (steps_acts save show t (run t (run_commands commands records))) status line
 
 -- the records of a whole capture, up to its first damage
-unfoldable pub by_records : Option (List ℕ) → Network → List Command → List Captured → Option Damage → Progress
-by_records save t commands records None = run_done save t commands records
-by_records save t commands records (Some damage) = run_cut save t commands records 5 (capture_line damage)
+unfoldable pub by_records : Option (List ℕ) → Showing → Network → List Command → List Captured → Option Damage → Progress
+by_records save show t commands records None = run_done save show t commands records
+by_records save show t commands records (Some damage) = run_cut save show t commands records 5 (capture_line damage)
 
 -- a run whose capture is this reading
-unfoldable pub on_capture : List ℕ → Reading → Option (List ℕ) → Network → List Command → Progress
-on_capture name (Whole bytes) save t commands = by_records save t commands (records_in bytes).items (records_in bytes).damage
-on_capture name (Failed front) save t commands = run_cut save t commands (records_in front).items 6 (read_line name)
-on_capture name Unread save t commands = goes_on (steps_acts save (length commands) t (run t commands))
+unfoldable pub on_capture : List ℕ → Reading → Option (List ℕ) → Showing → Network → List Command → Progress
+on_capture name (Whole bytes) save show t commands = by_records save show t commands (records_in bytes).items (records_in bytes).damage
+on_capture name (Failed front) save show t commands = run_cut save show t commands (records_in front).items 6 (read_line name)
+on_capture name Unread save show t commands = goes_on (steps_acts save show t (run t commands))
 
 -- a run of a script, and of a capture if one is named
-unfoldable pub run_by : Option (List ℕ) → List Reading → Option (List ℕ) → Network → List Command → Progress
-run_by None [] save t commands = run_done save t commands []
-run_by (Some name) (reading ∷ []) save t commands = on_capture name reading save t commands
-run_by capture readings save t commands = goes_on []
+unfoldable pub run_by : Option (List ℕ) → List Reading → Option (List ℕ) → Showing → Network → List Command → Progress
+run_by None [] save show t commands = run_done save show t commands []
+run_by (Some name) (reading ∷ []) save show t commands = on_capture name reading save show t commands
+run_by capture readings save show t commands = goes_on []
+
+-- so of a run with these words
+abbrev pub run_with : RunRequest → List Reading → Network → List Command → Progress
+run_with r readings t commands = run_by r.capture readings r.save (showing r (length commands)) t commands
 
 -- the generated commands are done over the generated topology
 unfoldable pub gen_done : ℕ → ℕ → Progress
@@ -133,6 +143,6 @@ gen_done seed packets =
 unfoldable pub doing : Request → List Reading → Progress
 doing (Hop key name) (file ∷ []) = on_commands name file_limit hop_rule file (hop_done key)
 doing (Run r) (first ∷ second ∷ rest) =
-    on_topology r.topology first (λ t. on_commands r.script script_limit run_rule second (run_by r.capture rest r.save t))
+    on_topology r.topology first (λ t. on_commands r.script script_limit run_rule second (run_with r rest t))
 doing (Gen seed packets) [] = gen_done seed packets
 doing request readings = goes_on []

@@ -1,4 +1,5 @@
 pub mod Acts
+pub mod Along
 pub mod Claims
 pub mod Doing
 pub mod End
@@ -8,13 +9,16 @@ pub mod Generating
 pub mod HopFile
 pub mod HopReport
 pub mod Limits
+pub mod Noting
 pub mod Performing
+pub mod Policed
 pub mod Outcome
 pub mod Readings
 pub mod RunReport
 pub mod Saved
 pub mod SavedFile
 pub mod Captures
+pub mod Showing
 pub mod Spelling
 pub mod StepLines
 pub mod Writing

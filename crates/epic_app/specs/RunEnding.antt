@@ -1,7 +1,7 @@
 -- Private: serves proofs of this crate alone; no public contract cites it.
 -- How a run ends behind its script.
 use Rattle.std.specs.Prelude.{◌≡◌, ℕ, ◌*◌, ◌<◌, ◌≤◌, false, List, length, Option, Contains, ⊤}
-use Rattle.std.specs.List.{AllByRecursion}
+use Rattle.std.specs.List.{AllByRecursion, list_any}
 use Rattle.std.specs.Option.{option_to_list}
 use Rattle.epic_num.specs.declared.command.Command.{Command}
 use Rattle.epic_ports.specs.Faults.{Rose}
@@ -17,21 +17,24 @@ use Rattle.epic_app.specs.Acts.{World, Does}
 use Rattle.epic_app.specs.Captures.{RecordsFit}
 use Rattle.epic_app.specs.Doing.{run_by, steps_acts}
 use Rattle.epic_app.specs.End.{HasCause, status_of}
+use Rattle.epic_app.specs.Noting.{shows_alarm}
 use Rattle.epic_app.specs.Performing.{Blamed, Works}
 use Rattle.epic_app.specs.Readings.{Reading, AreRead}
+use Rattle.epic_app.specs.Showing.{Showing}
 use Rattle.epic_app.specs.RunReport.{all_verdicts}
-use Rattle.epic_app.specs.Taking.{saved_by}
+use Rattle.epic_app.specs.Taking.{IsAfter, saved_by}
 
 -- the commands of a script were done, and what is to come begins behind them
 pub record IsBehind (x : Records) (t : Network) (commands : List Command) (old new : World) : Type 0 where
   pub network : x.world.network ≡ t
   pub state : x.world.state ≡ state_after t start commands
   pub steps : x.world.state.steps ≡ length commands
-  pub script : x.script ≡ length commands
-  pub counts : x.counts ≡ counts_of 0 (all_verdicts (run t commands))
+  pub counts : x.tally.counts ≡ counts_of 0 (all_verdicts (run t commands))
   pub few : length commands ≤ 524288
-  pub total : total x.counts ≤ 66 * length commands
-  pub done : Does (steps_acts (saved_by x) (length commands) t (run t commands)) old new
+  pub total : total x.tally.counts ≤ 66 * length commands
+  pub alarm : x.tally.alarm ≡ list_any (shows_alarm x.show t) (run t commands)
+  pub police : IsAfter x (run t commands)
+  pub done : Does (steps_acts (saved_by x) x.show t (run t commands)) old new
   pub works : Works (saved_by x) old new
   pub reads : new.reads ≡ old.reads
 
@@ -50,10 +53,10 @@ RunBlames capture save old new WriteFault = Blamed save old new
 RunBlames capture save old new OutOfMemory = ⊤
 
 -- a run of a script, and of a capture if one is named, ended so
-pub record RunEnds (capture save : Option (List ℕ)) (t : Network) (commands : List Command) (old new : World) (end : End) : Type 0 where
+pub record RunEnds (capture save : Option (List ℕ)) (show : Showing) (t : Network) (commands : List Command) (old new : World) (end : End) : Type 0 where
   pub readings : List Reading
   pub are_read : AreRead old new (option_to_list capture) readings
-  pub cause : HasCause (run_by capture readings save t commands) old new end
+  pub cause : HasCause (run_by capture readings save show t commands) old new end
   pub blames : RunBlames capture save old new end
   pub fits : status_of end < 2 → AllByRecursion RecordsFit readings
   pub later : (q : List ℕ) → old.reads q ≤ new.reads q

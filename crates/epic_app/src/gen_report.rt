@@ -1,17 +1,18 @@
 //! The report of a generated run, of which the last line and a digest are kept.
 
-ghost use Rattle.std.specs.Prelude.{◌≡◌, ◌+◌, ◌-◌, ◌^◌, ◌<◌, ◌≤◌, ◌++◌, IfOk, OnOk, string_bytes};
+ghost use Rattle.std.specs.Prelude.{◌≡◌, ◌+◌, ◌-◌, ◌^◌, ◌<◌, ◌≤◌, ◌++◌, IfOk, List, OnOk, string_bytes};
 ghost use Rattle.epic_gen.specs.Script.{generated};
 ghost use Rattle.epic_gen.specs.Names.{generator_key};
 ghost use Rattle.epic_model.specs.Steps.{next};
 ghost use Rattle.epic_text.specs.Counts.{end_line, total};
-ghost use Rattle.epic_world.specs.Run.{done_by, run};
+ghost use Rattle.epic_world.specs.Run.{Done, done_by, run};
 ghost use Rattle.epic_world.specs.Stepped.{IsPossible};
-ghost use Rattle.epic_app.specs.Generating.{digest_line, gen_text};
+ghost use Rattle.epic_app.specs.Generating.{digest_line, gen_text, plainly};
 ghost use Rattle.epic_app.specs.RunReport.{has_alarm, step_text, verdicts_in};
 ghost use Rattle.epic_app.specs.StepLines.{count_all};
 
 use crate::run_report::{count, step_lines, tells_alarm};
+use crate::showing::Showing;
 use epic_cmac::CmacState;
 use epic_gen::{command_at, generator_tag};
 use epic_num::{Command, OutOfMemory};
@@ -38,9 +39,9 @@ fn digest_step(
     ensures counts { IfOk result (λ c. c ≡
         count_all counts (verdicts_in (next world.old.network world.old.state command.now).answer)) }
     ensures total { IfOk result (λ c. total c ≤ total counts + 66) }
-    ensures digest { OnOk result (digest.new ≡ record digest.old {
+    ensures digest { (before : List Done) → OnOk result (digest.new ≡ record digest.old {
       message = digest.old.message ++
-          step_text script world.old.network (done_by world.old.network world.old.state command.now);
+          step_text (plainly script) world.old.network before (done_by world.old.network world.old.state command.now);
     }) }
 {
     let _profile = world.topology().profile();
@@ -50,11 +51,12 @@ fn digest_step(
         Ok(answer) => answer,
         Err(OutOfMemory) => return Err(OutOfMemory),
     };
-    let text = match step_lines(alloc, world, script, command, &answer) {
-        Ok(text) => text,
+    let show = Showing::new(script, false, None);
+    let lines = match step_lines(alloc, world, &show, &mut None, command, &answer) {
+        Ok(lines) => lines,
         Err(OutOfMemory) => return Err(OutOfMemory),
     };
-    digest.update(&text);
+    digest.update(&lines.text);
     Ok(count(counts, &answer))
 }
 

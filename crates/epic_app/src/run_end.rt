@@ -8,12 +8,15 @@ ghost use Rattle.epic_words.specs.Answers.{names_in};
 ghost use Rattle.epic_world.specs.Stepped.{IsPossible};
 ghost use Rattle.epic_app.specs.Acts as acts;
 ghost use Rattle.epic_app.specs.Captures as captures;
+ghost use Rattle.epic_app.specs.Doing.{showing};
 ghost use Rattle.epic_app.specs.RunEnding.{IsBehind, IsUnshared, RunEnds};
 ghost use Rattle.epic_app.specs.Taking.{saved_by, spares_in};
 ghost use Rattle.epic_app.specs.Writing.{Writes};
 
 use crate::end::{End, ended};
+use crate::policing::policers_of;
 use crate::run_report::{shown, tells_alarm, write_end, write_script};
+use crate::showing::Showing;
 use crate::taking::Records;
 use epic_feed::{FeedError, feed};
 use epic_num::Command;
@@ -25,22 +28,22 @@ use epic_world::World;
 use std::alloc::Global;
 
 /// Writes the last line of a run whose steps were all done, and says whether some verdict is forged
-/// or collided.
+/// or collided, or some maker that was shown.
 fn write_last<O: Sink>(run: &Records<'_>, out: &mut O) -> Result<bool, PortError>
-    requires { total run.now.counts < 2 ^ 63 }
+    requires { total run.now.tally.counts < 2 ^ 63 }
     ensures text { Writes
-        (end_line (record run.now.counts { steps = captures.shown run.now.script run.now.world.state.steps }))
+        (end_line (record run.now.tally.counts { steps = captures.shown run.now.show.script run.now.world.state.steps }))
         (O.written out.old) (O.written out.new) (O.faults out.old) (O.faults out.new) result }
     ensures later { O.faults out.old ≤ O.faults out.new }
     ensures forged { IfOk result (λ forged. forged ≡
-        (nat_lt 0 run.now.counts.forged || nat_lt 0 run.now.counts.collided)) }
+        ((nat_lt 0 run.now.tally.counts.forged || nat_lt 0 run.now.tally.counts.collided) || run.now.tally.alarm)) }
 {
     let counts = Counts {
-        steps: shown(run.script, run.world.steps()),
-        ..run.counts
+        steps: shown(run.show.script(), run.world.steps()),
+        ..run.tally.counts
     };
     write_end(run.alloc, &counts, out)?;
-    Ok(tells_alarm(&counts))
+    Ok(tells_alarm(&counts) || run.tally.alarm)
 }
 
 /// Does the records of a capture behind a script, and ends the run.
@@ -53,12 +56,12 @@ fn write_capture<'a, S: Store, O: Sink>(
 ) -> End<'a>
     requires spares { spares_in run.old name.now }
     requires steps { run.old.world.state.steps ≤ 524288 }
-    requires total { total run.old.counts ≤ 66 * 524288 }
+    requires total { total run.old.tally.counts ≤ 66 * 524288 }
     ensures { (t : Network) (commands : List Command) (u : acts.World)
         → IsBehind run.old t commands u
         (acts.world (S.contents store.old) (S.reads store.old) (S.writes store.old)
         (O.written out.old) (O.faults out.old))
-        → RunEnds (Some name.entry.now) (saved_by run.old) t commands u
+        → RunEnds (Some name.entry.now) (saved_by run.old) run.old.show t commands u
         (acts.world (S.contents store.new) (S.reads store.new) (S.writes store.new)
         (O.written out.new) (O.faults out.new)) result }
 {
@@ -85,24 +88,39 @@ pub fn write_run<'a, S: Store, O: Sink>(
     requires possible { All IsPossible commands.now }
     requires few { length commands.now ≤ 524288 }
     requires unshared { IsUnshared (names_in words.now) }
-    ensures { RunEnds (names_in words.now).capture (names_in words.now).save topo commands.now
+    ensures { RunEnds (names_in words.now).capture (names_in words.now).save
+        (showing (names_in words.now) (length commands.now)) topo commands.now
         (acts.world (S.contents store.old) (S.reads store.old) (S.writes store.old)
         (O.written out.old) (O.faults out.old))
         (acts.world (S.contents store.new) (S.reads store.new) (S.writes store.new)
         (O.written out.new) (O.faults out.new))
         result }
 {
-    let mut world = World::new(alloc, topo);
     let script = commands.len() as u32;
-    let counts = match write_script(alloc, &mut world, script, commands, words.save, store, out) {
-        Ok(counts) => counts,
+    let show = Showing::new(script, words.makers, words.police);
+    let Ok(mut police) = policers_of(alloc, &topo, words.police) else {
+        return End::OutOfMemory;
+    };
+    let mut world = World::new(alloc, topo);
+    let tally = match write_script(
+        alloc,
+        &mut world,
+        &mut police,
+        &show,
+        commands,
+        words.save,
+        store,
+        out,
+    ) {
+        Ok(tally) => tally,
         Err(error) => return ended(Err(error)),
     };
     let mut run = Records {
         alloc,
         world,
-        counts,
-        script,
+        police,
+        tally,
+        show,
         save: words.save,
     };
     match words.capture {

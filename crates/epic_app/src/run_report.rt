@@ -1,23 +1,31 @@
 //! The report of a run, step by step.
 
-ghost use Rattle.std.specs.Prelude.{◌≡◌, ◌+◌, ◌-◌, ◌*◌, ◌^◌, ◌<◌, ◌≤◌, All, IfOk, OnOk, flat_map, length, nat_lt, option_map, ◌||◌};
+ghost use Rattle.std.specs.Prelude.{◌≡◌, ◌+◌, ◌-◌, ◌*◌, ◌^◌, ◌<◌, ◌≤◌, ◌∷◌, ◌++◌, [], All, IfOk, List, OnOk, flat_map, length, nat_lt, option_map, ◌||◌};
+ghost use Rattle.std.specs.List.{list_any};
+ghost use Rattle.epic_ledger.specs.Facts.{facts_of};
+ghost use Rattle.epic_policer.specs.Policing.{Offer};
 ghost use Rattle.epic_text.specs.Counts.{counts_of, end_line, total};
 ghost use Rattle.epic_text.specs.Report.{IsToldAnswer, bytes_in, emission_bytes};
 ghost use Rattle.epic_model.specs.State.{start};
 ghost use Rattle.epic_model.specs.Steps.{next};
-ghost use Rattle.epic_world.specs.Run.{done_by, run, state_after};
+ghost use Rattle.epic_world.specs.Run.{Done, done_by, run, state_after};
 ghost use Rattle.epic_world.specs.Stepped.{IsPossible};
 ghost use Rattle.epic_app.specs.Acts as acts;
 ghost use Rattle.epic_app.specs.Captures.{shown};
 ghost use Rattle.epic_app.specs.Doing.{step_acts, steps_acts};
+ghost use Rattle.epic_app.specs.Noting.{all_offered, notes_after, offers_of, passes_after, shows_alarm, some_alarms};
 ghost use Rattle.epic_app.specs.Performing.{Performs, Stays};
+ghost use Rattle.epic_app.specs.Policed.{ArePoliced, IsNotablePass};
 ghost use Rattle.epic_app.specs.RunReport.{all_verdicts, answered_text, verdicts_in};
 ghost use Rattle.epic_app.specs.StepLines.{count_all};
 ghost use Rattle.epic_app.specs.Writing.{Writes};
 
+use crate::noting::answer_notes;
 use crate::saving::{open_saved, records_text, save_text};
+use crate::showing::Showing;
 use crate::writing::write_text;
 use epic_num::{Answer, Command, OutOfMemory, Passed, Verdict};
+use epic_policer::Policers;
 use epic_ports::{PortError, Sink, Store};
 use epic_text::{Counts, bytes_in, counted, print_answer, print_end};
 use epic_world::{World, fits};
@@ -32,32 +40,54 @@ pub fn shown(script: u32, step: u32) -> u32
     step.min(script) + step.saturating_sub(script) / 2
 }
 
-/// The lines of a step that was done, after which the world is this.
+/// The lines of a step, and whether a maker among them is an alarm.
+#[derive(Drop)]
+pub(crate) struct StepLines {
+    pub(crate) text: Vec<u8>,
+    pub(crate) alarm: bool,
+}
+
+/// The lines of a step that was done, after which the world is this. The packets that routers sent
+/// on are offered to the policers.
 pub(crate) fn step_lines(
     alloc: Global,
     world: &World,
-    script: u32,
+    show: &Showing,
+    police: &mut Option<Policers>,
     command: &Command,
     answer: &Answer,
-) -> Result<Vec<u8>, OutOfMemory>
-    requires { IsToldAnswer world.now.network world.now.state.history
+) -> Result<StepLines, OutOfMemory>
+    requires told { IsToldAnswer world.now.network world.now.state.history
         (bytes_in (emission_bytes world.now.state.history.emissions) command.now) answer.now }
-    ensures { IfOk result (λ text. text.items ≡
-        answered_text (shown script world.now.state.steps) world.now.network command.now answer.now
+    requires notable { All (IsNotablePass world.now.network) (passes_after command.now answer.now world.now.state) }
+    ensures text { (offers : List Offer) → ArePoliced world.now.network show.now.police police.old offers world.now.state.moment
+        → IfOk result (λ r. r.text.items ≡
+        answered_text (shown show.now.script world.now.state.steps) world.now.network command.now answer.now
+        (notes_after show.now world.now.network (shown show.now.script world.now.state.steps) offers command.now answer.now world.now.state)
         world.now.state) }
+    ensures alarm { IfOk result (λ r. r.alarm
+        ≡ some_alarms show.now world.now.network (facts_of world.now.state.history) (passes_after command.now answer.now world.now.state)) }
+    ensures police { (offers : List Offer) → ArePoliced world.now.network show.now.police police.old offers world.now.state.moment
+        → OnOk result (ArePoliced world.now.network show.now.police police.new (offers ++ all_offered world.now.state.moment (passes_after command.now answer.now world.now.state)) world.now.state.moment) }
 {
     let ledger = world.ledger();
     let came = bytes_in(ledger, command);
+    let number = shown(show.script(), world.steps());
+    let noted = answer_notes(alloc, world, show, number, police, command, answer)?;
     let mut text = Vec::new(alloc);
     print_answer(
         &mut text,
-        shown(script, world.steps()),
+        number,
         world.topology(),
         ledger,
         came,
+        &noted.notes,
         answer,
     )?;
-    Ok(text)
+    Ok(StepLines {
+        text,
+        alarm: noted.alarm,
+    })
 }
 
 /// The counts with further verdicts.
@@ -109,28 +139,35 @@ pub(crate) fn count(counts: Counts, answer: &Answer) -> Counts
 }
 
 /// Does a command, writes its lines, and then adds what it emitted to the saved file, if there is
-/// one. The script has so many commands.
+/// one. The packets that routers sent on are offered to the policers.
 pub fn write_step<S: Store, O: Sink>(
     alloc: Global,
     world: &mut World,
-    script: u32,
+    police: &mut Option<Policers>,
+    show: &Showing,
     command: &Command,
-    counts: Counts,
+    tally: Tally,
     save: Option<&str>,
     store: &mut S,
     out: &mut O,
-) -> Result<Counts, PortError>
+) -> Result<Tally, PortError>
     requires possible { IsPossible command.now }
     requires few { world.old.state.steps < 2 ^ 30 - 1 }
-    requires room { total counts < 2 ^ 63 }
+    requires room { total tally.counts < 2 ^ 63 }
     ensures network { world.new.network ≡ world.old.network }
     ensures state { OnOk result (world.new.state ≡
         (next world.old.network world.old.state command.now).state) }
-    ensures counts { IfOk result (λ c. c ≡
-        count_all counts (verdicts_in (next world.old.network world.old.state command.now).answer)) }
-    ensures total { IfOk result (λ c. total c ≤ total counts + 66) }
-    ensures performs { Performs (option_map (λ name. name.now) save.entry)
-        (step_acts (option_map (λ name. name.now) save.entry) script world.old.network
+    ensures counts { IfOk result (λ y. y.counts ≡
+        count_all tally.counts (verdicts_in (next world.old.network world.old.state command.now).answer)) }
+    ensures total { IfOk result (λ y. total y.counts ≤ total tally.counts + 66) }
+    ensures alarm { IfOk result (λ y. y.alarm ≡
+        (tally.alarm || shows_alarm show.now world.old.network (done_by world.old.network world.old.state command.now))) }
+    ensures police { (before : List Done) → ArePoliced world.old.network show.now.police police.old (offers_of before) world.old.state.moment
+        → OnOk result (ArePoliced world.old.network show.now.police police.new
+        (offers_of (before ++ done_by world.old.network world.old.state command.now ∷ [])) world.new.state.moment) }
+    ensures performs { (before : List Done) → ArePoliced world.old.network show.now.police police.old (offers_of before) world.old.state.moment
+        → Performs (option_map (λ name. name.now) save.entry)
+        (step_acts (option_map (λ name. name.now) save.entry) show.now world.old.network before
         (done_by world.old.network world.old.state command.now))
         (acts.world (S.contents store.old) (S.reads store.old) (S.writes store.old)
         (O.written out.old) (O.faults out.old))
@@ -150,14 +187,17 @@ pub fn write_step<S: Store, O: Sink>(
         Ok(answer) => answer,
         Err(OutOfMemory) => return Err(PortError::OutOfMemory),
     };
-    let text = match step_lines(alloc, world, script, command, &answer) {
-        Ok(text) => text,
+    let lines = match step_lines(alloc, world, show, police, command, &answer) {
+        Ok(lines) => lines,
         Err(OutOfMemory) => return Err(PortError::OutOfMemory),
     };
     let records = records_text(alloc, world.ledger(), before, world.now())?;
-    write_text(&text, out)?;
+    write_text(&lines.text, out)?;
     save_text(save, &records, store)?;
-    Ok(count(counts, &answer))
+    Ok(Tally {
+        counts: count(tally.counts, &answer),
+        alarm: tally.alarm | lines.alarm,
+    })
 }
 
 /// Writes the last line.
@@ -174,6 +214,13 @@ pub fn write_end<O: Sink>(alloc: Global, counts: &Counts, out: &mut O) -> Result
     }
 }
 
+/// The counts of the verdicts of steps, and whether a maker that was shown is forged or collided.
+#[derive(Clone, Copy)]
+pub struct Tally {
+    pub counts: Counts,
+    pub alarm: bool,
+}
+
 /// Whether some verdict is forged or collided.
 pub fn tells_alarm(counts: &Counts) -> bool
     ensures { result ≡ (nat_lt 0 counts.now.forged || nat_lt 0 counts.now.collided) }
@@ -182,31 +229,38 @@ pub fn tells_alarm(counts: &Counts) -> bool
 }
 
 /// Opens the saved file, if there is one, and does the commands of a script one after the other in
-/// a new world; `script` says how many there are. The lines of each are written, and what it emitted is saved, before the next is done.
+/// a new world, with policers to which nothing was offered. The lines of each are written, and what
+/// it emitted is saved, before the next is done.
 ///
 /// Answers the counts of the verdicts. `PortError::Failed` comes only where `out` or the saved file
 /// counted a failed write.
 pub fn write_script<S: Store, O: Sink>(
     alloc: Global,
     world: &mut World,
-    script: u32,
+    police: &mut Option<Policers>,
+    show: &Showing,
     commands: &[Command],
     save: Option<&str>,
     store: &mut S,
     out: &mut O,
-) -> Result<Counts, PortError>
+) -> Result<Tally, PortError>
     requires new { world.old.state ≡ start }
+    requires unused { ArePoliced world.old.network show.now.police police.old [] 0 }
     requires possible { All IsPossible commands.now }
     requires few { length commands.now ≤ 524288 }
     ensures network { world.new.network ≡ world.old.network }
     ensures state { OnOk result (world.new.state ≡
         state_after world.old.network start commands.now) }
-    ensures counts { IfOk result (λ c. c ≡
+    ensures counts { IfOk result (λ y. y.counts ≡
         counts_of 0 (all_verdicts (run world.old.network commands.now))) }
     ensures steps { OnOk result (world.new.state.steps ≡ length commands.now) }
-    ensures total { IfOk result (λ c. total c ≤ 66 * length commands.now) }
+    ensures total { IfOk result (λ y. total y.counts ≤ 66 * length commands.now) }
+    ensures alarm { IfOk result (λ y. y.alarm ≡
+        list_any (shows_alarm show.now world.old.network) (run world.old.network commands.now)) }
+    ensures police { OnOk result (ArePoliced world.old.network show.now.police police.new
+        (offers_of (run world.old.network commands.now)) world.new.state.moment) }
     ensures performs { Performs (option_map (λ name. name.now) save.entry)
-        (steps_acts (option_map (λ name. name.now) save.entry) script world.old.network (run world.old.network commands.now))
+        (steps_acts (option_map (λ name. name.now) save.entry) show.now world.old.network (run world.old.network commands.now))
         (acts.world (S.contents store.old) (S.reads store.old) (S.writes store.old)
         (O.written out.old) (O.faults out.old))
         (acts.world (S.contents store.new) (S.reads store.new) (S.writes store.new)
@@ -219,9 +273,12 @@ pub fn write_script<S: Store, O: Sink>(
         (O.written out.new) (O.faults out.new)) }
 {
     open_saved(save, store)?;
-    let mut counts = Counts::default();
+    let mut tally = Tally {
+        counts: Counts::default(),
+        alarm: false,
+    };
     for command in commands {
-        counts = write_step(alloc, world, script, command, counts, save, store, out)?;
+        tally = write_step(alloc, world, police, show, command, tally, save, store, out)?;
     }
-    Ok(counts)
+    Ok(tally)
 }

@@ -10,12 +10,13 @@ ghost use Rattle.epic_app.specs.Captures as captures;
 ghost use Rattle.epic_app.specs.Performing.{Works};
 ghost use Rattle.epic_app.specs.Taking.{Ran, StopsIn, saved_by};
 
-use crate::run_report::write_step;
+use crate::run_report::{Tally, write_step};
+use crate::showing::Showing;
 use epic_capture::Record;
 use epic_feed::Taker;
 use epic_num::{Bytes, Command, Place};
+use epic_policer::Policers;
 use epic_ports::{PortError, Sink, Store};
-use epic_text::Counts;
 use epic_world::{World, fits};
 use std::alloc::Global;
 
@@ -25,9 +26,10 @@ use std::alloc::Global;
 pub struct Records<'a> {
     pub alloc: Global,
     pub world: World,
-    pub counts: Counts,
-    /// How many commands the script has.
-    pub script: u32,
+    /// The policers, if packets are policed.
+    pub police: Option<Policers>,
+    pub tally: Tally,
+    pub show: Showing,
     /// The file that is saved.
     pub save: Option<&'a str>,
 }
@@ -68,7 +70,7 @@ impl Records<'_> {
     ) -> Result<(), PortError>
         requires possible { IsPossible command.now }
         requires few { self.old.world.state.steps < 2 ^ 30 - 1 }
-        requires room { total self.old.counts < 2 ^ 63 }
+        requires room { total self.old.tally.counts < 2 ^ 63 }
         ensures ok { OnOk result (Ran self.old self.new (command.now ∷ [])
             (acts.world (S.contents store.old) (S.reads store.old) (S.writes store.old)
             (O.written out.old) (O.faults out.old))
@@ -91,15 +93,16 @@ impl Records<'_> {
         match write_step(
             self.alloc,
             &mut self.world,
-            self.script,
+            &mut self.police,
+            &self.show,
             command,
-            self.counts,
+            self.tally,
             self.save,
             store,
             out,
         ) {
-            Ok(counts) => {
-                self.counts = counts;
+            Ok(tally) => {
+                self.tally = tally;
                 Ok(())
             }
             Err(error) => Err(error),

@@ -8,6 +8,7 @@ use Rattle.epic_model.specs.State.{start}
 use Rattle.epic_model.specs.Steps.{next}
 use Rattle.epic_world.specs.Run.{done_by, run_from, state_after}
 use Rattle.epic_world.proofs.Counted.{next_counts}
+use Rattle.epic_app.specs.Generating.{plainly}
 use Rattle.epic_app.specs.RunReport.{all_verdicts, step_text, steps_text, verdicts_in}
 use Rattle.epic_app.specs.StepLines.{count_all}
 use Rattle.epic_app.proofs.GenSteps.{gen_alarm, gen_whole, next_text, possible_at}
@@ -23,15 +24,16 @@ loop-place-preserved c =
     let d = c.in-Ok.command in
     let is : d ≡ get_or cs i d = sym (get_or_from_slice_get cs i d d c.in-Ok.ensures) in
     let within : i < length cs = slice_get_within cs i d c.in-Ok.ensures in
+    let steps_so_far = run_from t start (take i cs) in
     let (network, state, digest, counts, steps, few) = c.loop-place.invariant in (
       c.in_ok-counts.ensures.network ∙ network,
-      c.in_ok-counts.ensures.state ∙ ((λ k. (next (network k) (state k) (is k)).state) ∙ sym (next_state None n t cs i d within)),
-      c.in_ok-counts.ensures.digest
-          ∙ ((λ k. record (digest k) { message = (digest k).message ++ step_text n (network k) (done_by (network k) (state k) (is k)) })
-          ∙ ap (λ m. record { key = generator_key; message = m }) (sym (next_text n t cs i d within))),
+      c.in_ok-counts.ensures.state ∙ ((λ k. (next (network k) (state k) (is k)).state) ∙ sym (next_state None (plainly n) t cs i d within)),
+      c.in_ok-counts.ensures.digest steps_so_far
+          ∙ ((λ k. record (digest k) { message = (digest k).message ++ step_text (plainly n) (network k) steps_so_far (done_by (network k) (state k) (is k)) })
+          ∙ ap (λ m. record { key = generator_key; message = m }) (sym (next_text (plainly n) t cs i d within))),
       c.in_ok-counts.ensures.counts
           ∙ ((λ k. count_all (counts k) (verdicts_in (next (network k) (state k) (is k)).answer))
-          ∙ (count_all-counts 0 (all_verdicts (run_from t start (take i cs))) (verdicts_in (next t (state_after t start (take i cs)) (get_or cs i d)).answer) ∙ ap (counts_of 0) (sym (next_verdicts None n t cs i d within)))),
+          ∙ (count_all-counts 0 (all_verdicts (run_from t start (take i cs))) (verdicts_in (next t (state_after t start (take i cs)) (get_or cs i d)).answer) ∙ ap (counts_of 0) (sym (next_verdicts None (plainly n) t cs i d within)))),
       ap (λ (s : _). s.steps) c.in_ok-counts.ensures.state ∙ (next_counts c.loop-place.world.network c.loop-place.world.state d ∙ ap (λ n. n + 1) steps),
       omega (arith, c.in_ok-counts.ensures.total, few),
     )

@@ -1,12 +1,15 @@
-use Rattle.std.proofs.Common.{◌≡◌, ◌≤◌, ◌*◌, take}
-use Rattle.std.specs.List.{flat_map}
+use Rattle.std.proofs.Common.{◌≡◌, ◌≤◌, ◌*◌, [], take}
+use Rattle.std.specs.List.{list_any}
 use Rattle.std.specs.Option.{option_map}
 use Rattle.epic_text.specs.Counts.{counts_of, total}
 use Rattle.epic_model.specs.State.{start}
 use Rattle.epic_world.specs.Run.{run_from, state_after}
 use Rattle.epic_app.specs.Acts.{Does, world}
+use Rattle.epic_app.specs.Along.{along}
 use Rattle.epic_app.specs.Doing.{step_acts}
+use Rattle.epic_app.specs.Noting.{offers_of, shows_alarm}
 use Rattle.epic_app.specs.Performing.{Stays}
+use Rattle.epic_app.specs.Policed.{ArePoliced}
 use Rattle.epic_app.specs.RunReport.{all_verdicts}
 use Rattle.epic_app.proofs.run_report.write_script.Given as goal
 
@@ -18,8 +21,10 @@ invariant-loop-command g l =
     let now = world (g.S.Store.contents l.store) (g.S.Store.reads l.store) (g.S.Store.writes l.store) (g.O.Sink.written l.out) (g.O.Sink.faults l.out) in
     (l.world.network ≡ l.fn.world.network)
     × (l.world.state ≡ state_after l.fn.world.network start (take l.command-index l.commands))
-    × Does (flat_map (step_acts save l.script l.fn.world.network) (run_from l.fn.world.network start (take l.command-index l.commands))) before now
+    × Does (along (step_acts save l.show l.fn.world.network) [] (run_from l.fn.world.network start (take l.command-index l.commands))) before now
     × Stays save before now
-    × (l.counts ≡ counts_of 0 (all_verdicts (run_from l.fn.world.network start (take l.command-index l.commands))))
+    × (l.tally.counts ≡ counts_of 0 (all_verdicts (run_from l.fn.world.network start (take l.command-index l.commands))))
     × (l.world.state.steps ≡ l.command-index)
-    × (total l.counts ≤ 66 * l.command-index)
+    × (total l.tally.counts ≤ 66 * l.command-index)
+    × (l.tally.alarm ≡ list_any (shows_alarm l.show l.fn.world.network) (run_from l.fn.world.network start (take l.command-index l.commands)))
+    × ArePoliced l.fn.world.network l.show.police l.police (offers_of (run_from l.fn.world.network start (take l.command-index l.commands))) l.world.state.moment

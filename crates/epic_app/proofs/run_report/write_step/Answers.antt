@@ -1,4 +1,4 @@
-use Rattle.std.proofs.Common.{rules, ◌≡◌, ℕ, length, Ok, Err, ap, subst, ◌∙◌, arith}
+use Rattle.std.proofs.Common.{rules, ◌≡◌, ◌||◌, ℕ, length, Ok, Err, ap, subst, ◌∙◌, arith}
 use Rattle.std.specs.Option.{option_map}
 use Rattle.epic_num.specs.declared.answer.Answer.{Answer}
 use Rattle.epic_ports.specs.declared.error.PortError.TheVariants.{OutOfMemory}
@@ -7,16 +7,20 @@ use Rattle.epic_topo.specs.Network.{Network}
 use Rattle.epic_ledger.specs.History.{History}
 use Rattle.epic_model.specs.State.{State}
 use Rattle.epic_model.specs.Steps.{next}
+use Rattle.epic_world.specs.Run.{done_by}
 use Rattle.epic_app.specs.Captures.{shown}
+use Rattle.epic_app.specs.Noting.{notes_after, offers_of, shows_alarm}
+use Rattle.epic_app.specs.Policed.{ArePoliced}
 use Rattle.epic_app.specs.RunReport.{answered_text, verdicts_in}
 use Rattle.epic_app.proofs.Acting.{performs_err, stays_both}
-use Rattle.epic_app.proofs.EmissionsGrow.{emissions_grow}
+use Rattle.epic_app.proofs.EmissionsGrow.{emissions_grow, moments_rise}
+use Rattle.epic_app.proofs.PolicedLaws.{offers_last, police_later}
 use Rattle.epic_app.proofs.StepWriting.{lines_are, lines_stopped, records_are, stays_written, step_performed, stopped_same}
-use Rattle.epic_app.proofs.Told.{answers_are_few, answers_are_told}
+use Rattle.epic_app.proofs.Told.{answers_are_few, answers_are_notable, answers_are_told}
 use Rattle.epic_app.proofs.run_report.write_step.Goals as goal
 
 pub returns-in-Err-clause-performs : goal.returns-in-Err-clause-performs
-returns-in-Err-clause-performs g c = stopped_same _ _
+returns-in-Err-clause-performs g c = λ before policed. stopped_same _ _
 
 pub step_lines-requires : goal.step_lines-requires
 step_lines-requires g c =
@@ -24,10 +28,13 @@ step_lines-requires g c =
     let s = c.args.world.now.state in
     let topology = subst (λ (n : Network). IsTopology n) c.topology.ensures c.profile-profile.ensures.lawful in
     rw (c.in-Ok.ensures.network, c.in-Ok.ensures.step.1, c.in-Ok.ensures.step.0)
-    (answers_are_told t s c.args.command.now topology c.fits.ensures c.ledger.ensures.world)
+    (record {
+      told = answers_are_told t s c.args.command.now topology c.fits.ensures c.ledger.ensures.world;
+      notable = answers_are_notable t s c.args.command.now topology c.fits.ensures c.ledger.ensures.world;
+    })
 
 pub returns-in-Err-step_lines-clause-performs : goal.returns-in-Err-step_lines-clause-performs
-returns-in-Err-step_lines-clause-performs g c = stopped_same _ _
+returns-in-Err-step_lines-clause-performs g c = λ before policed. stopped_same _ _
 
 pub records_text-requires-clause-before : goal.records_text-requires-clause-before
 records_text-requires-clause-before g c =
@@ -40,31 +47,41 @@ records_text-requires-clause-before g c =
     omega (arith, before, after, emissions_grow t s c.args.command.now)
 
 pub returns-in_err-records-clause-performs : goal.returns-in_err-records-clause-performs
-returns-in_err-records-clause-performs g c =
+returns-in_err-records-clause-performs g c = λ before policed.
     performs_err _ _ _ _ _ OutOfMemory (search rules) (stopped_same _ _)
 
 pub returns-in_err-write_text-clause-performs : goal.returns-in_err-write_text-clause-performs
-returns-in_err-write_text-clause-performs g c =
+returns-in_err-write_text-clause-performs g c = λ before policed.
     let t = c.args.world.now.network in
     let s = c.args.world.now.state in
     let n = next t s c.args.command.now in
-    let text : c.deref.result.now ≡ answered_text (shown c.args.script n.state.steps) t c.args.command.now n.answer n.state =
-    c.deref.ensures.value ∙ (rw (c.in-Ok.ensures.network, c.in-Ok.ensures.step.1, c.in-Ok.ensures.step.0) at c.in-Ok-step_lines.ensures) in
+    let number = shown c.args.show.now.script n.state.steps in
+    let later : ArePoliced t c.args.show.now.police c.args.police.now (offers_of before) n.state.moment
+    = police_later t c.args.show.now.police c.args.police.now (offers_of before) s.moment n.state.moment (moments_rise t s c.args.command.now) policed in
+    let text : c.deref.result.now ≡ answered_text number t c.args.command.now n.answer
+    (notes_after c.args.show.now t number (offers_of before) c.args.command.now n.answer n.state) n.state =
+    c.deref.ensures.value
+    ∙ ((rw (c.in-Ok.ensures.network, c.in-Ok.ensures.step.1, c.in-Ok.ensures.step.0) at c.in-Ok-step_lines.ensures.text) (offers_of before) later) in
     let e = c.in_err-write_text.field-0.0 in
     performs_err _ _ _ _ _ e (search rules)
-    (lines_stopped (option_map (λ (name : _). name.now) c.args.save) c.args.script t s c.args.command.now
+    (lines_stopped (option_map (λ (name : _). name.now) c.args.save) c.args.show.now t before s c.args.command.now
     (g.S.Store.contents c.args.store.now) (g.S.Store.reads c.args.store.now) (g.S.Store.writes c.args.store.now)
     (g.O.Sink.written c.args.out.now) (g.O.Sink.written c.write_text.new.out)
     (g.O.Sink.faults c.args.out.now) (g.O.Sink.faults c.write_text.new.out)
-    c.deref.result.now (lines_are t s c.args.command.now c.args.script _ text) e c.in_err-write_text.ensures.text)
+    c.deref.result.now (lines_are t s c.args.command.now c.args.show.now before _ text) e c.in_err-write_text.ensures.text)
 
 pub returns-in_err-save_text-clause-performs : goal.returns-in_err-save_text-clause-performs
-returns-in_err-save_text-clause-performs g c =
+returns-in_err-save_text-clause-performs g c = λ before policed.
     let t = c.args.world.now.network in
     let s = c.args.world.now.state in
     let n = next t s c.args.command.now in
-    let text : c.deref.result.now ≡ answered_text (shown c.args.script n.state.steps) t c.args.command.now n.answer n.state =
-    c.deref.ensures.value ∙ (rw (c.in-Ok.ensures.network, c.in-Ok.ensures.step.1, c.in-Ok.ensures.step.0) at c.in-Ok-step_lines.ensures) in
+    let number = shown c.args.show.now.script n.state.steps in
+    let later : ArePoliced t c.args.show.now.police c.args.police.now (offers_of before) n.state.moment
+    = police_later t c.args.show.now.police c.args.police.now (offers_of before) s.moment n.state.moment (moments_rise t s c.args.command.now) policed in
+    let text : c.deref.result.now ≡ answered_text number t c.args.command.now n.answer
+    (notes_after c.args.show.now t number (offers_of before) c.args.command.now n.answer n.state) n.state =
+    c.deref.ensures.value
+    ∙ ((rw (c.in-Ok.ensures.network, c.in-Ok.ensures.step.1, c.in-Ok.ensures.step.0) at c.in-Ok-step_lines.ensures.text) (offers_of before) later) in
     let written = g.O.Sink.written c.write_text.new.out in
     let faults = g.O.Sink.faults c.write_text.new.out in
     let records = records_are t s c.args.command.now c.deref-2.result.now c.emissions-before.result c.now.result
@@ -74,10 +91,10 @@ returns-in_err-save_text-clause-performs g c =
     (c.ledger-2.ensures.history ∙ ap (λ (x : State). x.history) c.in-Ok.ensures.step.1) in
     let e = c.in_err-save_text.field-0.0 in
     performs_err _ _ _ _ _ e (search rules)
-    (step_performed (option_map (λ (name : _). name.now) c.args.save) c.args.script t s c.args.command.now
+    (step_performed (option_map (λ (name : _). name.now) c.args.save) c.args.show.now t before s c.args.command.now
     (g.S.Store.contents c.args.store.now) (g.S.Store.reads c.args.store.now) (g.S.Store.writes c.args.store.now)
     (g.O.Sink.written c.args.out.now) written (g.O.Sink.faults c.args.out.now) faults
-    c.deref.result.now (lines_are t s c.args.command.now c.args.script _ text)
+    c.deref.result.now (lines_are t s c.args.command.now c.args.show.now before _ text)
     {X = ℕ} c.deref-2.result.now _ (Err e) records c.in_ok-write_text.ensures.text c.write_text.ensures.later
     (c.in_err-save_text.ensures.performs written faults))
 
@@ -105,12 +122,17 @@ returns-clause-total g c =
     omega (arith, few, c.count.ensures.total, answers_are_few t s c.args.command.now topology c.fits.ensures c.ledger.ensures.world)
 
 pub returns-clause-performs : goal.returns-clause-performs
-returns-clause-performs g c =
+returns-clause-performs g c = λ before policed.
     let t = c.args.world.now.network in
     let s = c.args.world.now.state in
     let n = next t s c.args.command.now in
-    let text : c.deref.result.now ≡ answered_text (shown c.args.script n.state.steps) t c.args.command.now n.answer n.state =
-    c.deref.ensures.value ∙ (rw (c.in-Ok.ensures.network, c.in-Ok.ensures.step.1, c.in-Ok.ensures.step.0) at c.in-Ok-step_lines.ensures) in
+    let number = shown c.args.show.now.script n.state.steps in
+    let later : ArePoliced t c.args.show.now.police c.args.police.now (offers_of before) n.state.moment
+    = police_later t c.args.show.now.police c.args.police.now (offers_of before) s.moment n.state.moment (moments_rise t s c.args.command.now) policed in
+    let text : c.deref.result.now ≡ answered_text number t c.args.command.now n.answer
+    (notes_after c.args.show.now t number (offers_of before) c.args.command.now n.answer n.state) n.state =
+    c.deref.ensures.value
+    ∙ ((rw (c.in-Ok.ensures.network, c.in-Ok.ensures.step.1, c.in-Ok.ensures.step.0) at c.in-Ok-step_lines.ensures.text) (offers_of before) later) in
     let written = g.O.Sink.written c.write_text.new.out in
     let faults = g.O.Sink.faults c.write_text.new.out in
     let records = records_are t s c.args.command.now c.deref-2.result.now c.emissions-before.result c.now.result
@@ -118,10 +140,10 @@ returns-clause-performs g c =
     (c.emissions-before.ensures ∙ ap (λ (h : History). length h.emissions) c.ledger.ensures.history)
     (c.now.ensures.value ∙ ap (λ (x : State). x.moment) c.in-Ok.ensures.step.1)
     (c.ledger-2.ensures.history ∙ ap (λ (x : State). x.history) c.in-Ok.ensures.step.1) in
-    step_performed (option_map (λ (name : _). name.now) c.args.save) c.args.script t s c.args.command.now
+    step_performed (option_map (λ (name : _). name.now) c.args.save) c.args.show.now t before s c.args.command.now
     (g.S.Store.contents c.args.store.now) (g.S.Store.reads c.args.store.now) (g.S.Store.writes c.args.store.now)
     (g.O.Sink.written c.args.out.now) written (g.O.Sink.faults c.args.out.now) faults
-    c.deref.result.now (lines_are t s c.args.command.now c.args.script _ text)
+    c.deref.result.now (lines_are t s c.args.command.now c.args.show.now before _ text)
     {X = ℕ} c.deref-2.result.now _ (Ok 0) records c.in_ok-write_text.ensures.text c.write_text.ensures.later
     (c.in_ok-save_text.ensures.performs written faults)
 
@@ -131,3 +153,19 @@ returns-clause-stays g c =
     (stays_written _ (g.S.Store.contents c.args.store.now) (g.S.Store.reads c.args.store.now) (g.S.Store.writes c.args.store.now)
     (g.O.Sink.written c.args.out.now) (g.O.Sink.written c.write_text.new.out) _ _ c.write_text.ensures.later)
     (c.save_text.ensures.stays (g.O.Sink.written c.write_text.new.out) (g.O.Sink.faults c.write_text.new.out))
+
+pub returns-clause-police : goal.returns-clause-police
+unfolding done_by
+returns-clause-police g c = λ before policed.
+    let t = c.args.world.now.network in
+    let s = c.args.world.now.state in
+    let n = next t s c.args.command.now in
+    let later : ArePoliced t c.args.show.now.police c.args.police.now (offers_of before) n.state.moment
+    = police_later t c.args.show.now.police c.args.police.now (offers_of before) s.moment n.state.moment (moments_rise t s c.args.command.now) policed in
+    rw (offers_last before (done_by t s c.args.command.now), c.in-Ok.ensures.step.1)
+    ((rw (c.in-Ok.ensures.network, c.in-Ok.ensures.step.1, c.in-Ok.ensures.step.0) at c.in-Ok-step_lines.ensures.police) (offers_of before) later)
+
+pub returns-clause-alarm : goal.returns-clause-alarm
+unfolding shows_alarm done_by
+returns-clause-alarm g c =
+    ap (λ b. c.args.tally.alarm || b) (rw (c.in-Ok.ensures.network, c.in-Ok.ensures.step.1, c.in-Ok.ensures.step.0) at c.in-Ok-step_lines.ensures.alarm)
