@@ -1,0 +1,3 @@
+mod Hops
+mod LineEnds
+mod LineExamples

@@ -1,0 +1,21 @@
+//! The lines of the two files in which a run can be kept: what happened, and what was said of it.
+#![tactic(auto)]
+
+mod accepted_lines;
+mod event_words;
+mod fault;
+mod item;
+mod ledger_line;
+mod line;
+mod packet_line;
+#[cfg(test)]
+mod tests;
+mod verdict_line;
+
+pub use accepted_lines::print_accepted;
+pub use fault::FileKind;
+pub use item::Item;
+pub use ledger_line::{
+    print_accept_dest, print_accept_hop, print_emission, print_event, print_item,
+};
+pub use verdict_line::{print_dest_verdict, print_hop_verdict};
