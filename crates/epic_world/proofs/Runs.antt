@@ -1,5 +1,5 @@
 -- Runs go on from states that hold to states that hold.
-use Rattle.std.proofs.Common.{◌+◌, ◌<◌, List, [], ◌∷◌, length, map, subst, arith}
+use Rattle.std.proofs.Common.{ℕ, ◌+◌, ◌<◌, List, [], ◌∷◌, length, map, subst, arith}
 use Rattle.std.specs.List.{All}
 use Rattle.std.proofs.lemmas.List.Elements.{All-head, All-tail, All-cons, All-nil}
 use Rattle.epic_num.specs.declared.command.Command.{Command}
@@ -15,8 +15,15 @@ use Rattle.epic_model.specs.State.{State, start}
 use Rattle.epic_model.specs.Steps.{next}
 use Rattle.epic_model.specs.World.{Fits, HonestCarriesArrive, IsWorld, VerdictsAreRight, WorldsGoOn, WorldsStart, most_steps}
 use Rattle.epic_world.specs.Run.{done_by, run_from, state_after}
-use Rattle.epic_world.specs.Sound.{CarriesHonestPackets, RunsHold, StateHolds, StepHolds}
+use Rattle.epic_world.specs.Sound.{CarriesHonestPackets, IsCarriedWhereHonest, RunsHold, StateHolds, StepHolds}
 use Rattle.epic_world.proofs.Counted.{next_counts}
+
+-- the packet of a send that is honest is carried
+pub honest_carries : HonestCarriesArrive
+    → (t : Network) (s : State) (emission : ℕ) → IsTopology t → IsWorld t s
+    → IsCarriedWhereHonest t s emission (next t s (command.Carry emission)).passages
+honest_carries honest t s emission topology w =
+    λ n x there is now. subst (λ e. IsCarried x.packet (map (λ y. y.happened) (next t s (command.Carry e)).passages)) is (honest t s n x topology w there now)
 
 module _ (begin : WorldsStart) (go_on : WorldsGoOn) (right : VerdictsAreRight) (honest : HonestCarriesArrive) (twice : InvTwice)
     (whole : ChainsAreWhole) (issued_whole : IssuedChainsAreWhole) (packets : LawfulPackets) where
@@ -31,8 +38,7 @@ module _ (begin : WorldsStart) (go_on : WorldsGoOn) (right : VerdictsAreRight) (
       }
 
   carries : (t : Network) (s : State) (c : Command) → IsTopology t → IsWorld t s → CarriesHonestPackets t s c (next t s c).passages
-  carries t s (command.Carry emission) topology w =
-      λ n x there is now. subst (λ e. IsCarried x.packet (map (λ y. y.happened) (next t s (command.Carry e)).passages)) is (honest t s n x topology w there now)
+  carries t s (command.Carry emission) topology w = honest_carries honest t s emission topology w
   carries t s (command.At moment) topology w = tt
   carries t s (command.Originate a out exp) topology w = tt
   carries t s (command.Extend parent out exp) topology w = tt

@@ -1,10 +1,12 @@
 -- How calls that are to make a step end.
 use Rattle.std.specs.Prelude.{◌≡◌, ◌≤◌, true, Result, Ok, Err}
 use Rattle.epic_num.specs.declared.answer.Answer.{Answer}
+use Rattle.epic_num.specs.declared.answer.Answer.TheVariants.{Carried}
 use Rattle.epic_num.specs.declared.command.Command.{Command}
 use Rattle.epic_num.specs.declared.command.Command.TheVariants as command
 use Rattle.epic_num.specs.declared.memory.OutOfMemory.{OutOfMemory}
 use Rattle.epic_num.specs.declared.moment.TheConstants.{MAX_MOMENT}
+use Rattle.epic_num.specs.declared.passed.PassedList.{PassedList}
 use Rattle.epic_num.specs.Levels.{first_byte, is_first_byte}
 use Rattle.epic_model.specs.State.{State}
 use Rattle.epic_model.specs.Traces.{Stepped}
@@ -13,6 +15,11 @@ use Rattle.epic_model.specs.Traces.{Stepped}
 abbrev pub Steps : Stepped → Result Answer OutOfMemory → State → State → Type 0
 Steps n (Ok answer) old new = (answer ≡ n.answer) × (new ≡ n.state)
 Steps n (Err e) old new = new ≡ old
+
+-- so where the step is a carry: the call tells its passes
+abbrev pub Carries : Stepped → Result PassedList OutOfMemory → State → State → Type 0
+Carries n (Ok passes) old new = (n.answer ≡ Carried passes) × (new ≡ n.state)
+Carries n (Err e) old new = new ≡ old
 
 -- a command whose moment fits, and whose packet is of a level and version that exist
 unfoldable pub IsPossible : Command → Type 0

@@ -1,6 +1,7 @@
 //! The world of every verb: many actors, one step at a time, over the ledger of what happened.
 #![tactic(auto)]
 
+mod carries;
 mod carrying;
 mod commands;
 mod fetching;
@@ -12,6 +13,8 @@ mod places;
 mod revealing;
 mod sending;
 mod stepping;
+#[cfg(test)]
+mod tests;
 mod world;
 
 pub use commands::{fits, is_possible};

@@ -6,16 +6,15 @@ ghost use Rattle.epic_ledger.specs.History.{Emission, emission_at};
 ghost use Rattle.epic_model.specs.Keeping.{IsDue};
 
 use crate::World;
-use crate::carrying::carry_here;
 use crate::commands::are_bytes;
 use crate::laws::is_topology;
 use crate::places::{arrive_here, copied, turn_here};
 use epic_ledger::Ledger;
-use epic_num::{Answer, AsId, HostId, OutOfMemory, PassedList, Place, Refusal};
+use epic_num::{Answer, AsId, HostId, OutOfMemory, Place, Refusal};
 use std::alloc::{AllocError, Global};
 
 /// The place and the bytes of the emission of a number, if there is one.
-fn emission(
+pub(crate) fn emission(
     alloc: Global,
     ledger: &Ledger,
     number: u32,
@@ -29,7 +28,7 @@ fn emission(
 }
 
 impl World {
-    ghost use Rattle.epic_model.specs.Steps.{carrying, next_arrive, next_carry, next_pass, next_turn, passing};
+    ghost use Rattle.epic_model.specs.Steps.{next_arrive, next_pass, next_turn, passing};
     ghost use Rattle.epic_world.specs.Stepped.{Steps};
 
     // Bytes come to the router of an AS that is there.
@@ -150,55 +149,6 @@ impl World {
     {
         match emission(alloc, &self.ledger, number) {
             Ok(Some((place, bytes))) => self.at_place(alloc, place, bytes.as_slice()),
-            Ok(None) => Ok(self.refused(Refusal::UnknownEmission(number))),
-            Err(_) => Err(OutOfMemory),
-        }
-    }
-
-    // An emission that is there is carried on.
-    #[tactic(auto, unfolding(epic_model::specs::Steps::carrying))]
-    fn carry_from(
-        &mut self,
-        alloc: Global,
-        number: u32,
-        place: Place,
-        came: &mut [u8],
-    ) -> Result<Answer, OutOfMemory>
-        requires few { self.old.state.steps < 2 ^ 30 - 1 }
-        requires there { emission_at self.old.state.history.emissions number ≡ Some (record { place = place; bytes = came.old }) }
-        ensures step { Steps (carrying self.old.network self.old.state number) result self.old.state self.new.state }
-        ensures network { self.new.network ≡ self.old.network }
-    {
-        is_topology(&self.topo);
-        let step = self.steps + 1;
-        let told = carry_here(
-            alloc,
-            &self.topo,
-            &mut self.ledger,
-            &mut self.routers,
-            &mut self.hosts,
-            &self.beacons,
-            number,
-            place,
-            came,
-            self.moment,
-            step,
-        )?;
-        self.steps = step;
-        Ok(Answer::Carried(PassedList::from_vec(told)))
-    }
-
-    // An emission is carried on from the place where it is due, to where it goes no further.
-    #[tactic(auto, unfolding(epic_model::specs::Steps::next_carry))]
-    pub(crate) fn carry(&mut self, alloc: Global, number: u32) -> Result<Answer, OutOfMemory>
-        requires { self.old.state.steps < 2 ^ 30 - 1 }
-        ensures step { Steps (next_carry self.old.network self.old.state number) result self.old.state self.new.state }
-        ensures network { self.new.network ≡ self.old.network }
-    {
-        match emission(alloc, &self.ledger, number) {
-            Ok(Some((place, mut bytes))) => {
-                self.carry_from(alloc, number, place, bytes.as_mut_slice())
-            }
             Ok(None) => Ok(self.refused(Refusal::UnknownEmission(number))),
             Err(_) => Err(OutOfMemory),
         }

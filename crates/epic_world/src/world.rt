@@ -142,14 +142,14 @@ impl World {
             Command::Turn { a, iface, bytes } => self.turn(alloc, *a, *iface, bytes.as_slice()),
             Command::Arrive { host, bytes } => self.arrive(alloc, *host, bytes.as_slice()),
             Command::Pass { emission } => self.pass(alloc, *emission),
-            Command::Carry { emission } => self.carry(alloc, *emission),
+            Command::Carry { emission } => self.carry_known(alloc, *emission),
             Command::Reveal { holder } => self.reveal(*holder),
             Command::Roll { a } => self.roll(*a),
         }
     }
 
     // Whatever a step answers, its verdicts are right.
-    fn judges(&self, command: &Command)
+    pub(crate) fn judges(&self, command: &Command)
         requires { IsPossible command.now }
         ensures { let n = next self.now.network self.now.state command.now in VerdictsHold self.now.network n.answer n.passages }
     {
