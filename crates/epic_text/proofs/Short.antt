@@ -19,7 +19,8 @@ onto_first_short x most (part ∷ parts) h =
     All-cons (IsWithin (suc most)) (x ∷ part) parts (omega (arith, first))
     (All-weaker (IsWithin most) (IsWithin (suc most)) (λ w k. omega (arith, k)) parts (All-tail (IsWithin most) part parts h))
 
-parts_short : (p : ℕ → Bool) (xs : List ℕ) → All (IsWithin (length xs)) (slice_split p xs)
+-- the parts of a list are no longer than the list
+pub parts_short : (p : ℕ → Bool) (xs : List ℕ) → All (IsWithin (length xs)) (slice_split p xs)
 parts_short p [] = All-cons (IsWithin 0) [] [] (omega arith) (All-nil (IsWithin 0))
 parts_short p (x ∷ xs) =
     let P : List ℕ → Type 0 = IsWithin (suc (length xs)) in

@@ -25,7 +25,12 @@ pub use carried_text::{bytes_in, emission_bytes, print_carried};
 pub use counts::{Counts, counted, print_end};
 pub use laws::commands_are_spelled;
 pub use line::print_line;
+pub use lines::split_line;
 pub use notes::Notes;
 pub use passed_text::{print_pass, print_passed};
 pub use script::{FromWords, MAX_COMMANDS, ScriptError, ScriptKind, WordsError, read_script};
+pub use segment_word::read_segments;
 pub use verdict_text::{print_dest, print_hop, print_verdict};
+pub use word::{
+    read_as, read_bytes, read_holder, read_host, read_u8, read_u16, read_u32, read_u64,
+};

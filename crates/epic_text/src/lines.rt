@@ -47,7 +47,7 @@ fn line_end(text: &[u8]) -> Option<usize>
 
 /// The first line of `text`, which isn't empty, with the return that it may have, and the text
 /// after it.
-fn split_line(text: &[u8]) -> (&[u8], &[u8])
+pub fn split_line(text: &[u8]) -> (&[u8], &[u8])
     requires { 0 < length text.now }
     ensures parts { parts text.now ≡ result.0.now ∷ parts result.1.now }
     ensures within { length result.0.now ≤ length text.now }
