@@ -1,3 +1,5 @@
+mod Bodies
 mod Hops
 mod LineEnds
 mod LineExamples
+mod Pieces

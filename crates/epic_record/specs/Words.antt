@@ -1,5 +1,5 @@
 -- The words of a line, and what each form of word names.
-use Rattle.std.specs.Prelude.{ℕ, ◌==◌, ◌&&◌, nat_le, Bool, List, take, drop, slice_index, Option, Some, None, option_map, Result, Err}
+use Rattle.std.specs.Prelude.{◌≡◌, ℕ, ◌==◌, ◌&&◌, nat_le, Bool, List, take, drop, slice_index, Option, Some, None, option_map, Result, Ok, Err, ⊤}
 use Rattle.std.specs.Int.{w16, w32, from_be_bytes}
 use Rattle.std.specs.List.{slice_split}
 use Rattle.std.specs.Result.{result_ok}
@@ -7,6 +7,8 @@ use Rattle.hex.specs.Hex.{decode_sized}
 use Rattle.epic_num.specs.declared.hop.Body.{Body}
 use Rattle.epic_record.specs.declared.fault.FileKind.{FileKind}
 use Rattle.epic_record.specs.declared.fault.FileKind.TheVariants.{BadWord}
+use Rattle.epic_record.specs.declared.fault.LineError.{LineError}
+use Rattle.epic_record.specs.declared.fault.LineError.TheVariants as line_error
 
 -- a printing character of ASCII, or a space
 abbrev pub is_plain_byte : ℕ → Bool
@@ -38,3 +40,17 @@ body_of bytes = record {
 -- the hop's body that 36 hexadecimal digits spell, in either case
 unfoldable pub body_named : List ℕ → Option Body
 body_named text = option_map body_of (result_ok (decode_sized text 18))
+
+-- ---- what is read
+
+-- the value of a word, or its refusal, but for memory
+abbrev pub IsWord : {A : Type 0} → ℕ → Option A → Result A LineError → Type 0
+IsWord word told (Ok value) = told ≡ Some value
+IsWord word told (Err (line_error.Refused kind)) = (told ≡ None) × (kind ≡ BadWord word)
+IsWord word told (Err line_error.OutOfMemory) = ⊤
+
+-- what a line tells, or its fault, but for memory
+abbrev pub IsLine : {A : Type 0} → Result A FileKind → Result A LineError → Type 0
+IsLine told (Ok value) = told ≡ Ok value
+IsLine told (Err (line_error.Refused kind)) = told ≡ Err kind
+IsLine told (Err line_error.OutOfMemory) = ⊤

@@ -1,5 +1,10 @@
 //! Why a ledger file or a verdict file can't be read.
 
+ghost use Rattle.std.specs.Prelude.{◌≡◌};
+ghost use Rattle.epic_record.specs.declared.fault.LineError.TheVariants as line_error;
+
+use std::alloc::AllocError;
+
 /// Why a line is refused, or the file as a whole.
 #[derive(Clone, Copy, Debug, PartialEq, Eq)]
 pub enum FileKind {
@@ -19,4 +24,19 @@ pub enum FileKind {
     Extra,
     /// The file has more bytes than its limit.
     TooLong,
+}
+
+/// Why a line isn't read.
+#[derive(Clone, Copy, Debug, PartialEq, Eq)]
+pub enum LineError {
+    Refused(FileKind),
+    OutOfMemory,
+}
+
+impl From<AllocError> for LineError {
+    ghost from_gives = { λ _ e. e ≡ line_error.OutOfMemory };
+
+    fn from(_e: AllocError) -> LineError {
+        LineError::OutOfMemory
+    }
 }

@@ -2,20 +2,26 @@
 #![tactic(auto)]
 
 mod accepted_lines;
+mod body;
 mod event_words;
 mod fault;
 mod item;
 mod ledger_line;
+mod ledger_words;
 mod line;
 mod packet_line;
+mod reading;
+mod split_words;
 #[cfg(test)]
 mod tests;
 mod verdict_line;
+mod word;
 
 pub use accepted_lines::print_accepted;
-pub use fault::FileKind;
+pub use fault::{FileKind, LineError};
 pub use item::Item;
 pub use ledger_line::{
     print_accept_dest, print_accept_hop, print_emission, print_event, print_item,
 };
+pub use reading::read_item;
 pub use verdict_line::{print_dest_verdict, print_hop_verdict};

@@ -1,0 +1,4 @@
+use Rattle.epic_record.proofs.word.read_segments.Goals as goal
+
+pub returns : goal.returns
+returns c = c.as_in_script.ensures _ c.read_segments.ensures
