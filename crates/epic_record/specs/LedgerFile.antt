@@ -109,8 +109,8 @@ abbrev pub placed : Network → History → Result Item FileKind → Result Item
 placed t h (Err kind) = Err kind
 placed t h (Ok item) = if is_placed t h item then Ok item else Err BadPlace
 
-abbrev pub on_line : {C : Type 0} → ℕ → Result Item FileKind → (Item → Result C Fault) → Result C Fault
-on_line number (Ok item) next = next item
+abbrev pub on_line : {A C : Type 0} → ℕ → Result A FileKind → (A → Result C Fault) → Result C Fault
+on_line number (Ok told) next = next told
 on_line number (Err kind) next = Err (number, kind)
 
 -- lines after others, the first of which has this number

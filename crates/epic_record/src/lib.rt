@@ -14,6 +14,7 @@ mod reading;
 mod split_words;
 #[cfg(test)]
 mod tests;
+mod told;
 mod verdict_line;
 mod word;
 
@@ -24,4 +25,5 @@ pub use ledger_line::{
     print_accept_dest, print_accept_hop, print_emission, print_event, print_item,
 };
 pub use reading::read_item;
+pub use told::{Told, ToldForgery};
 pub use verdict_line::{print_dest_verdict, print_hop_verdict};
