@@ -1,5 +1,7 @@
 mod Bodies
 mod Hops
+mod Keys
 mod LineEnds
 mod LineExamples
 mod Pieces
+mod VerdictPieces

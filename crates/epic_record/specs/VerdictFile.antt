@@ -37,13 +37,22 @@ abbrev pub dest_told : List (List ℕ) → Result Told FileKind
 dest_told [] = Err UnknownVerb
 dest_told (verb ∷ verdict) = if bytes_eq verb (codes "dest") then verdict_of 2 (Some 0) verdict else Err UnknownVerb
 
-abbrev pub told_by_words : Subject → List (List ℕ) → Result Told FileKind
-told_by_words (AtHop a generation hop) words = hop_told hop words
-told_by_words AtDest words = dest_told words
+-- what a line tells by its words; a byte that is no text is told first
+abbrev pub told_line : (List (List ℕ) → Result Told FileKind) → List ℕ → Result Told FileKind
+told_line by line = if list_all is_plain_byte line then by (pieces line) else Err NotText
 
--- what a line tells of the acceptance of a hop or of a packet at its destination, or its fault
-unfoldable pub told_in : Subject → List ℕ → Result Told FileKind
-told_in subject line = if list_all is_plain_byte line then told_by_words subject (pieces line) else Err NotText
+-- what a line tells of an accepted hop, by its index, or its fault
+unfoldable pub told_at_hop : ℕ → List ℕ → Result Told FileKind
+told_at_hop hop line = told_line (hop_told hop) line
+
+-- what a line tells of a packet at its destination, or its fault
+unfoldable pub told_at_dest : List ℕ → Result Told FileKind
+told_at_dest line = told_line dest_told line
+
+-- what a line tells of an acceptance
+abbrev pub told_in : Subject → List ℕ → Result Told FileKind
+told_in (AtHop a generation hop) line = told_at_hop hop line
+told_in AtDest line = told_at_dest line
 
 -- ---- the file
 

@@ -1,6 +1,6 @@
 -- What the words of a verdict tell, or their fault. A word that chooses their form is told first, then the number of words, then
 -- the first bad word of the line.
-use Rattle.std.specs.Prelude.{◌≡◌, ℕ, ◌+◌, List, [], ◌∷◌, Option, Some, None, option_map, option_and_then, Result, Ok, Err, codes, bytes_eq, if◌then◌else◌}
+use Rattle.std.specs.Prelude.{ℕ, ◌+◌, List, [], ◌∷◌, Option, Some, None, option_map, option_and_then, Result, Ok, Err, codes, bytes_eq, if◌then◌else◌}
 use Rattle.std.specs.List.{slice_split}
 use Rattle.std.specs.Option.{option_zip}
 use Rattle.epic_num.specs.declared.hop.HopName.{HopName}
@@ -17,7 +17,7 @@ use Rattle.epic_record.specs.declared.told.Told.{Told}
 use Rattle.epic_record.specs.declared.told.Told.TheVariants as told
 use Rattle.epic_record.specs.declared.told.ToldForgery.{ToldForgery}
 use Rattle.epic_record.specs.declared.told.ToldForgery.TheVariants as forgery
-use Rattle.epic_record.specs.Words.{body_named, on_word}
+use Rattle.epic_record.specs.Words.{body_named, on_word, on_words}
 
 -- ---- names of keys
 
@@ -93,24 +93,33 @@ opened_of n at (step ∷ []) =
     on_word 2 at (λ j. on_word (n + 1) (number_within most32 step) (λ s. Ok (told.Opened s)))
 opened_of n at arguments = Err WordCount
 
+-- a key and what a tag is made over under it, the first of which has the number `n`
+abbrev pub signed_named : ℕ → List ℕ → List ℕ → Result (KeyName × List ℕ) FileKind
+signed_named n key message = on_word n (key_named key) (λ k. on_word (n + 1) (bytes_of message) (λ m. Ok (k, m)))
+
+-- the key of a field over an authenticator, and what the field is made over
+abbrev pub over_named : ℕ → List ℕ → List ℕ → Result ToldForgery FileKind
+over_named n key message =
+    on_word n (over_key_named key) (λ k. on_word (n + 1) (bytes_of message) (λ m. Ok (forgery.Over k m)))
+
 -- `forged issue KEY MESSAGE TAG`, or `field` or `dest` in place of `issue`: the words from KEY on
-abbrev pub plain_of : ToldForgery → ℕ → Option ℕ → List (List ℕ) → Result Told FileKind
-plain_of what n at (key ∷ message ∷ tag ∷ []) =
+abbrev pub plain_of : ℕ → Option ℕ → List (List ℕ) → Result ((KeyName × List ℕ) × List ℕ) FileKind
+plain_of n at (key ∷ message ∷ tag ∷ []) =
     on_word 2 at (λ j.
-    on_word (n + 2) (key_named key) (λ k.
-    on_word (n + 3) (bytes_of message) (λ m.
-    on_word (n + 4) (bytes_of tag) (λ g. Ok (told.Forged what k m g)))))
-plain_of what n at arguments = Err WordCount
+    on_words (signed_named (n + 2) key message) (λ s.
+    on_word (n + 4) (bytes_of tag) (λ g. Ok (s, g))))
+plain_of n at arguments = Err WordCount
+
+abbrev pub told_plainly : ToldForgery → Result ((KeyName × List ℕ) × List ℕ) FileKind → Result Told FileKind
+told_plainly what words = on_words words (λ s. Ok (told.Forged what s.0.0 s.0.1 s.1))
 
 -- `forged issue-over KEY MESSAGE KEY MESSAGE TAG`: the words from the first KEY on
 abbrev pub over_of : ℕ → Option ℕ → List (List ℕ) → Result Told FileKind
 over_of n at (key ∷ message ∷ over ∷ under ∷ tag ∷ []) =
     on_word 2 at (λ j.
-    on_word (n + 2) (key_named key) (λ k.
-    on_word (n + 3) (bytes_of message) (λ m.
-    on_word (n + 4) (over_key_named over) (λ o.
-    on_word (n + 5) (bytes_of under) (λ u.
-    on_word (n + 6) (bytes_of tag) (λ g. Ok (told.Forged (forgery.Over o u) k m g)))))))
+    on_words (signed_named (n + 2) key message) (λ s.
+    on_words (over_named (n + 4) over under) (λ what.
+    on_word (n + 6) (bytes_of tag) (λ g. Ok (told.Forged what s.0 s.1 g)))))
 over_of n at arguments = Err WordCount
 
 -- `forged update HOP KEY MESSAGE TAG`: the words from HOP on
@@ -118,34 +127,35 @@ abbrev pub update_of : ℕ → Option ℕ → List (List ℕ) → Result Told Fi
 update_of n at (hop ∷ key ∷ message ∷ tag ∷ []) =
     on_word 2 at (λ j.
     on_word (n + 2) (number_within most8 hop) (λ h.
-    on_word (n + 3) (key_named key) (λ k.
-    on_word (n + 4) (bytes_of message) (λ m.
-    on_word (n + 5) (bytes_of tag) (λ g. Ok (told.Forged (forgery.Update h) k m g))))))
+    on_words (signed_named (n + 3) key message) (λ s.
+    on_word (n + 5) (bytes_of tag) (λ g. Ok (told.Forged (forgery.Update h) s.0 s.1 g)))))
 update_of n at arguments = Err WordCount
 
 -- the words after `forged`
 abbrev pub forged_of : ℕ → Option ℕ → List (List ℕ) → Result Told FileKind
 forged_of n at [] = Err WordCount
 forged_of n at (what ∷ more) =
-    if bytes_eq what (codes "issue") then plain_of forgery.Issue n at more
+    if bytes_eq what (codes "issue") then told_plainly forgery.Issue (plain_of n at more)
     else if bytes_eq what (codes "issue-over") then over_of n at more
-    else if bytes_eq what (codes "field") then plain_of forgery.Field n at more
+    else if bytes_eq what (codes "field") then told_plainly forgery.Field (plain_of n at more)
     else if bytes_eq what (codes "update") then update_of n at more
-    else if bytes_eq what (codes "dest") then plain_of forgery.Dest n at more
+    else if bytes_eq what (codes "dest") then told_plainly forgery.Dest (plain_of n at more)
     else Err (BadWord (n + 1))
+
+-- a hop's AS, the generation of its key and its body, the first of which has the number `n`
+abbrev pub hop_named : ℕ → List ℕ → List ℕ → List ℕ → Result HopName FileKind
+hop_named n asn generation body =
+    on_word n (as_named asn) (λ a.
+    on_word (n + 1) (number_within most32 generation) (λ g.
+    on_word (n + 2) (body_named body) (λ b. Ok (record { asn = a; generation = g; body = b }))))
 
 -- `collided PART AS G BODY AS G BODY TAG`: the words after PART
 abbrev pub pair_of : Part → ℕ → Option ℕ → List (List ℕ) → Result Told FileKind
 pair_of part n at (asn ∷ generation ∷ body ∷ other ∷ number ∷ another ∷ tag ∷ []) =
     on_word 2 at (λ j.
-    on_word (n + 2) (as_named asn) (λ a.
-    on_word (n + 3) (number_within most32 generation) (λ g.
-    on_word (n + 4) (body_named body) (λ b.
-    on_word (n + 5) (as_named other) (λ c.
-    on_word (n + 6) (number_within most32 number) (λ h.
-    on_word (n + 7) (body_named another) (λ d.
-    on_word (n + 8) (bytes_of tag) (λ m.
-    Ok (told.Collided part (record { asn = a; generation = g; body = b }) (record { asn = c; generation = h; body = d }) m)))))))))
+    on_words (hop_named (n + 2) asn generation body) (λ x.
+    on_words (hop_named (n + 5) other number another) (λ y.
+    on_word (n + 8) (bytes_of tag) (λ g. Ok (told.Collided part x y g)))))
 pair_of part n at arguments = Err WordCount
 
 -- the words after `collided`

@@ -26,6 +26,11 @@ abbrev pub on_word : {A C : Type 0} → ℕ → Option A → (A → Result C Fil
 on_word word (Some value) next = next value
 on_word word None next = Err (BadWord word)
 
+-- what follows the value of several words
+abbrev pub on_words : {A C : Type 0} → Result A FileKind → (A → Result C FileKind) → Result C FileKind
+on_words (Ok value) next = next value
+on_words (Err kind) next = Err kind
+
 -- the hop's body that 18 bytes spell: numbers have the highest byte first
 unfoldable pub body_of : List ℕ → Body
 body_of bytes = record {

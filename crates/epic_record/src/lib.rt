@@ -6,6 +6,7 @@ mod body;
 mod event_words;
 mod fault;
 mod item;
+mod key_word;
 mod ledger_line;
 mod ledger_words;
 mod line;
@@ -16,6 +17,8 @@ mod split_words;
 mod tests;
 mod told;
 mod verdict_line;
+mod verdict_reading;
+mod verdict_words;
 mod word;
 
 pub use accepted_lines::print_accepted;
@@ -27,3 +30,4 @@ pub use ledger_line::{
 pub use reading::read_item;
 pub use told::{Told, ToldForgery};
 pub use verdict_line::{print_dest_verdict, print_hop_verdict};
+pub use verdict_reading::{read_dest_verdict, read_hop_verdict};
