@@ -3,5 +3,8 @@ mod Hops
 mod Keys
 mod LineEnds
 mod LineExamples
+mod LedgerLaws
 mod Pieces
+mod PlaceLaws
+mod SegmentCounts
 mod VerdictPieces

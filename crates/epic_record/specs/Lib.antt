@@ -1,7 +1,9 @@
+pub mod LedgerCheck
 pub mod LedgerFile
 pub mod LedgerLine
 pub mod LedgerText
 pub mod Passing
+pub mod Places
 pub mod VerdictFile
 pub mod VerdictLines
 pub mod VerdictWords

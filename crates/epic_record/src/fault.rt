@@ -40,3 +40,11 @@ impl From<AllocError> for LineError {
         LineError::OutOfMemory
     }
 }
+
+/// Why a file isn't read.
+#[derive(Clone, Copy, Debug, PartialEq, Eq)]
+pub enum FileError {
+    /// The first line that is refused, counted from 1, or 0 for the file as a whole, and why.
+    Refused { line: u32, kind: FileKind },
+    OutOfMemory,
+}

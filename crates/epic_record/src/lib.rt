@@ -7,10 +7,12 @@ mod event_words;
 mod fault;
 mod item;
 mod key_word;
+mod ledger_check;
 mod ledger_line;
 mod ledger_words;
 mod line;
 mod packet_line;
+mod places;
 mod reading;
 mod split_words;
 #[cfg(test)]
@@ -22,8 +24,9 @@ mod verdict_words;
 mod word;
 
 pub use accepted_lines::print_accepted;
-pub use fault::{FileKind, LineError};
+pub use fault::{FileError, FileKind, LineError};
 pub use item::Item;
+pub use ledger_check::{MAX_LEDGER, check_ledger};
 pub use ledger_line::{
     print_accept_dest, print_accept_hop, print_emission, print_event, print_item,
 };
