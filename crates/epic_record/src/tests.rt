@@ -214,3 +214,26 @@ fn lines_of_verdicts(rt: HostRuntime) -> Result<(), Fail> {
     assert_eq!(rt; to.as_slice(), lines.as_bytes());
     Ok(())
 }
+
+/// Lines of a ledger file, and the fault of each.
+const REFUSED: [(&[u8], FileKind); 9] = [
+    (b"roll 1\t1-1 0", FileKind::NotText),
+    (b"", FileKind::UnknownVerb),
+    (b"roll 1 1-1", FileKind::WordCount),
+    (b"roll  1 1-1 0", FileKind::WordCount),
+    (b"accept", FileKind::WordCount),
+    (b"emit x sent", FileKind::BadWord { word: 3 }),
+    (b"roll 01 1-1 x", FileKind::BadWord { word: 2 }),
+    (b"roll 1 1-1 4294967296", FileKind::BadWord { word: 4 }),
+    (b"arrive 1 1-1,1 0-0,0 0 2 2", FileKind::BadPlace),
+];
+
+#[test]
+fn lines_that_are_refused(rt: HostRuntime) -> Result<(), Fail> {
+    for (line, kind) in REFUSED {
+        assert!(rt; line.len() <= 100);
+        let told = read_item(rt.alloc(), line).err();
+        assert_eq!(rt; told, Some(LineError::Refused(kind)));
+    }
+    Ok(())
+}
