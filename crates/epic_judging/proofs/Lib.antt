@@ -1,0 +1,7 @@
+mod Listing
+mod SameTold
+mod Provenance
+mod Making
+mod HopDecided
+mod DestDecided
+mod Meaning
