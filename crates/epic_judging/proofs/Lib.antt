@@ -5,3 +5,5 @@ mod Making
 mod HopDecided
 mod DestDecided
 mod Meaning
+mod OneJudgment
+mod Claimed
