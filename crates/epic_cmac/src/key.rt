@@ -53,8 +53,10 @@ impl CmacKey {
         let mut x = [0; 16];
         let (front, rest) = message.split_at(16 * (message.len().saturating_sub(1) / 16));
         let (blocks, _) = front.as_chunks::<16>();
+        // The last block is ready before the chain comes to it.
+        let last = self.last_block(rest);
         self.chain(&mut x, blocks);
-        self.end(x, rest)
+        self.close(x, &last)
     }
 
     // Takes blocks before the last into the state of the chain.
@@ -70,7 +72,14 @@ impl CmacKey {
         requires { length rest.now ≤ 16 }
         ensures { result ≡ aes self.now (block_sum x (last_block self.now rest.now)) }
     {
-        let mut block = block_sum(&x, &self.last_block(rest));
+        self.close(x, &self.last_block(rest))
+    }
+
+    // The tag from the state of the chain before its last block, and from that block as it goes into the chain.
+    fn close(&self, x: [u8; 16], last: &[u8; 16]) -> [u8; 16]
+        ensures { result ≡ aes self.now (block_sum x last.now) }
+    {
+        let mut block = block_sum(&x, last);
         self.cipher.encrypt(&mut block);
         block
     }

@@ -1,6 +1,7 @@
 use Rattle.std.proofs.Common.{◌≡◌, ◌/◌, ap, ◌∙◌}
 use Rattle.std.specs.Simd.{first_chunks}
-use Rattle.epic_aes.specs.Chain.{chain}
+use Rattle.epic_aes.specs.Chain.{block_sum, chain}
+use Rattle.epic_aes.specs.Cipher.{aes}
 use Rattle.epic_cmac.specs.Cmac.{zero_block, count_before_last}
 use Rattle.epic_cmac.proofs.BlockLemmas.{first_chunks-front, tag-cmac}
 use Rattle.epic_cmac.proofs.key.CmacKey.tag.Goals as goal
@@ -16,4 +17,6 @@ returns c =
     c.split_at.ensures.front c.split_at.ensures.front_len c.as_chunks.ensures.front in
     let state : c.chain.new.x ≡ chain key zero_block (first_chunks 16 count message) =
     c.chain.ensures ∙ ap (chain key zero_block) cut in
-    c.end.ensures ∙ tag-cmac key message _ _ count before state c.split_at.ensures.back
+    c.close.ensures
+    ∙ ap (λ last. aes key (block_sum c.chain.new.x last)) c.last_block-last.ensures
+    ∙ tag-cmac key message _ _ count before state c.split_at.ensures.back
