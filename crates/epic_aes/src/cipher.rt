@@ -1,6 +1,6 @@
 //! A key that is ready for use, and the encryption of a block under it.
 
-ghost use Rattle.std.specs.Prelude.{◌≡◌, ℕ, ◌<◌, List, [], length, slice_index_or};
+ghost use Rattle.std.specs.Prelude.{◌≡◌, ℕ, ◌+◌, ◌<◌, List, [], length, slice_index_or};
 ghost use Rattle.epic_aes.specs.Chain.{chain};
 ghost use Rattle.epic_aes.specs.Cipher.{add_round_key, aes, after_rounds};
 ghost use Rattle.epic_aes.specs.Keys.{first_key, HasRoundKeys};
@@ -58,6 +58,27 @@ fn later_rounds(keys: &[RoundKey; 11], x: u8x16) -> u8x16
     let x = round(x, keys[8].lanes, 7);
     let x = round(x, keys[9].lanes, 8);
     last_round(x, keys[10].lanes)
+}
+
+// The round after n rounds, fewer than nine, of two blocks, each under a key of its own. Neither waits for the other.
+#[inline(always)]
+fn round_of_both(
+    keys: &[RoundKey; 11],
+    x: u8x16,
+    others: &[RoundKey; 11],
+    y: u8x16,
+    n: usize,
+) -> (u8x16, u8x16)
+    requires few { n < 9 }
+    requires keys { HasRoundKeys keys.now }
+    requires others { HasRoundKeys others.now }
+    ensures first { (block : List ℕ) → state_of n x ≡ after_rounds (first_key keys.now) block n → state_of (n + 1) result.0 ≡ after_rounds (first_key keys.now) block (n + 1) }
+    ensures second { (block : List ℕ) → state_of n y ≡ after_rounds (first_key others.now) block n → state_of (n + 1) result.1 ≡ after_rounds (first_key others.now) block (n + 1) }
+{
+    (
+        round(x, keys[n + 1].lanes, n),
+        round(y, others[n + 1].lanes, n),
+    )
 }
 
 // The sum of the first key and a block, where there is that block.
@@ -132,6 +153,31 @@ impl Aes {
         let x = early_rounds(&self.keys, x);
         let x = later_rounds(&self.keys, x);
         *block = leave(x).to_array();
+    }
+
+    /// Puts the ciphertext of the 16 bytes of `x` under this key, and that of the 16 bytes of `y` under another, in their places
+    /// (FIPS 197 5.1). The two are made side by side, in less time than one after the other.
+    pub fn encrypt_both(&self, x: &mut [u8; 16], other: &Aes, y: &mut [u8; 16])
+        ensures first { x.new ≡ aes self.now x.old }
+        ensures second { y.new ≡ aes other.now y.old }
+    {
+        let keys = &self.keys;
+        let others = &other.keys;
+        let x0 = sum(keys[0].lanes, enter(u8x16::from_array(*x)));
+        let y0 = sum(others[0].lanes, enter(u8x16::from_array(*y)));
+        let both1 = round_of_both(keys, x0, others, y0, 0);
+        let both2 = round_of_both(keys, both1.0, others, both1.1, 1);
+        let both3 = round_of_both(keys, both2.0, others, both2.1, 2);
+        let both4 = round_of_both(keys, both3.0, others, both3.1, 3);
+        let both5 = round_of_both(keys, both4.0, others, both4.1, 4);
+        let both6 = round_of_both(keys, both5.0, others, both5.1, 5);
+        let both7 = round_of_both(keys, both6.0, others, both6.1, 6);
+        let both8 = round_of_both(keys, both7.0, others, both7.1, 7);
+        let both9 = round_of_both(keys, both8.0, others, both8.1, 8);
+        let x10 = last_round(both9.0, keys[10].lanes);
+        let y10 = last_round(both9.1, others[10].lanes);
+        *x = leave(x10).to_array();
+        *y = leave(y10).to_array();
     }
 
     /// Adds each block of 16 bytes to `x` in turn, and encrypts the sum: cipher block chaining, for a MAC.

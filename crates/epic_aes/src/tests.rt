@@ -31,3 +31,13 @@ fn encrypts_the_examples(rt: HostRuntime) {
         assert_eq!(rt; block, example.ciphertext);
     }
 }
+
+#[test]
+fn encrypts_the_examples_side_by_side(rt: HostRuntime) {
+    let [one, two] = &EXAMPLES;
+    let mut x = one.plaintext;
+    let mut y = two.plaintext;
+    Aes::new(&one.key).encrypt_both(&mut x, &Aes::new(&two.key), &mut y);
+    assert_eq!(rt; x, one.ciphertext);
+    assert_eq!(rt; y, two.ciphertext);
+}
