@@ -1,5 +1,5 @@
 -- The blocks of a message, and the tag from the chain before the last of them.
-use Rattle.std.proofs.Common.{◌≡◌, ℕ, zero, suc, ◌+◌, ◌-◌, ◌*◌, ◌/◌, ◌≤◌, List, [], ◌∷◌, ◌++◌, length, take, drop, refl, ap, sym, ◌∙◌, zero-add, add-zero, arith}
+use Rattle.std.proofs.Common.{◌≡◌, ℕ, zero, suc, ◌+◌, ◌-◌, ◌*◌, ◌/◌, ◌<◌, ◌≤◌, List, [], ◌∷◌, ◌++◌, length, take, drop, length-drop, refl, ap, sym, ◌∙◌, zero-add, add-zero, arith}
 use Rattle.std.specs.Simd.{first_chunks}
 use Rattle.std.proofs.lemmas.List.{take-take, drop-take, drop-drop}
 use Rattle.std.proofs.Math.Seq.{take-append_seam}
@@ -48,13 +48,51 @@ first_chunks-add (suc j) k m =
     ∙ (λ i. take 16 m ∷ (first_chunks-add j k (drop 16 m)
     ∙ ap (λ rest. first_chunks 16 j (drop 16 m) ++ first_chunks 16 k rest) left) i)
 
--- the tag, from the chain over the blocks before the last and from the bytes of the last
+-- the chain over all blocks of a message, from the chain over those before the last and from the bytes of the last
+pub chain-blocks : (key message x y rest : List ℕ) (count : ℕ) → count ≡ count_before_last message →
+    y ≡ chain key x (first_chunks 16 count message) → rest ≡ drop (16 * count) message →
+    aes key (block_sum y (last_block key rest)) ≡ chain key x (blocks key message)
+unfolding blocks
+chain-blocks key message x y rest count before state left =
+    (λ i. aes key (block_sum (state i) (last_block key (left i))))
+    ∙ sym (chain-one key (chain key x (first_chunks 16 count message)) (last_block key (drop (16 * count) message)))
+    ∙ sym (chain-append key x (first_chunks 16 count message) (last_block key (drop (16 * count) message) ∷ []))
+    ∙ (λ i. chain key x (first_chunks 16 (before i) message ++ last_block key (drop (16 * before i) message) ∷ []))
+
+-- the tag, from the same
 pub tag-cmac : (key message x rest : List ℕ) (count : ℕ) → count ≡ count_before_last message →
     x ≡ chain key zero_block (first_chunks 16 count message) → rest ≡ drop (16 * count) message →
     aes key (block_sum x (last_block key rest)) ≡ cmac key message
-unfolding blocks cmac
-tag-cmac key message x rest count before state left =
-    (λ i. aes key (block_sum (state i) (last_block key (left i))))
-    ∙ sym (chain-one key (chain key zero_block (first_chunks 16 count message)) (last_block key (drop (16 * count) message)))
-    ∙ sym (chain-append key zero_block (first_chunks 16 count message) (last_block key (drop (16 * count) message) ∷ []))
-    ∙ (λ i. chain key zero_block (first_chunks 16 (before i) message ++ last_block key (drop (16 * before i) message) ∷ []))
+unfolding cmac
+tag-cmac key message x rest count before state left = chain-blocks key message zero_block x rest count before state left
+
+-- the blocks of a message of more than one: the first, and those of the rest
+pub blocks-more : (key message : List ℕ) → 16 < length message → blocks key message ≡ take 16 message ∷ blocks key (drop 16 message)
+unfolding blocks
+blocks-more key message more =
+    let dropped = length-drop 16 message in
+    let count = count_before_last (drop 16 message) in
+    let longer : count_before_last message ≡ suc count = omega arith in
+    let place : 16 + 16 * count ≡ 16 * suc count = omega arith in
+    let left : drop (16 * suc count) message ≡ drop (16 * count) (drop 16 message) =
+    ap (λ n. drop n message) (sym place) ∙ sym (drop-drop (16 * count) 16 message) in
+    ap (λ n. first_chunks 16 n message ++ last_block key (drop (16 * n) message) ∷ []) longer
+    ∙ ap (λ bytes. first_chunks 16 (suc count) message ++ last_block key bytes ∷ []) left
+
+-- the tag of a message of more than one block, from the chain after the first
+pub tag-rest : (key message x rest : List ℕ) → 16 < length message →
+    x ≡ aes key (block_sum zero_block (take 16 message)) → rest ≡ drop 16 message → chain key x (blocks key rest) ≡ cmac key message
+unfolding cmac
+tag-rest key message x rest more state left =
+    (λ i. chain key (state i) (blocks key (left i)))
+    ∙ ap (λ y. chain key y (blocks key (drop 16 message))) (sym (chain-one key zero_block (take 16 message)))
+    ∙ sym (chain-append key zero_block (take 16 message ∷ []) (blocks key (drop 16 message)))
+    ∙ ap (chain key zero_block) (sym (blocks-more key message more))
+
+-- the same where the rest is the last block
+pub tag-two : (key message x rest : List ℕ) → 16 < length message → length message ≤ 32 →
+    x ≡ aes key (block_sum zero_block (take 16 message)) → rest ≡ drop 16 message →
+    aes key (block_sum x (last_block key rest)) ≡ cmac key message
+tag-two key message x rest more most state left =
+    let count : 1 ≡ count_before_last message = omega arith in
+    tag-cmac key message x rest 1 count (state ∙ sym (chain-one key zero_block (take 16 message))) left

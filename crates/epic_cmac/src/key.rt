@@ -1,9 +1,9 @@
 //! A key with all that the tags under it need.
 
-ghost use Rattle.std.specs.Prelude.{◌≡◌, ◌≤◌, length};
+ghost use Rattle.std.specs.Prelude.{◌≡◌, ◌<◌, ◌≤◌, length};
 ghost use Rattle.epic_aes.specs.Chain.{block_sum, chain};
 ghost use Rattle.epic_aes.specs.Cipher.{aes};
-ghost use Rattle.epic_cmac.specs.Cmac.{cmac, last_block};
+ghost use Rattle.epic_cmac.specs.Cmac.{blocks, cmac, last_block, zero_block};
 
 use crate::subkeys::{block_double, first_subkey, padded_block};
 use epic_aes::{Aes, block_sum};
@@ -46,11 +46,69 @@ impl CmacKey {
         }
     }
 
+    // The same, with a block encrypted under the key beside the block of which the subkeys are made.
+    #[tactic(auto, unfolding(crate::specs::Cmac::first_subkey, crate::specs::Cmac::second_subkey))]
+    pub(crate) fn new_beside(key: &[u8; 16], block: &mut [u8; 16]) -> CmacKey
+        ensures key { result ≡ key.now }
+        ensures block { block.new ≡ aes key.now block.old }
+    {
+        let cipher = Aes::new(key);
+        let mut zeros = [0; 16];
+        cipher.encrypt_both(&mut zeros, &cipher, block);
+        let whole = block_double(&zeros);
+        let padded = block_double(&whole);
+        CmacKey {
+            cipher,
+            whole,
+            padded,
+        }
+    }
+
     /// The tag, of 16 bytes, of a message under the key (RFC 4493 2.4).
+    #[tactic(auto, unfolding(crate::specs::Cmac::cmac))]
     pub fn tag(&self, message: &[u8]) -> [u8; 16]
         ensures { result ≡ cmac self.now message.now }
     {
-        let mut x = [0; 16];
+        self.tag_from([0; 16], message)
+    }
+
+    /// The tags, of 16 bytes each, of a message under this key and of another under another key. Each message is of two blocks,
+    /// 17 to 32 bytes. The two are made side by side, in less time than one after the other.
+    pub fn tag_both(&self, one: &[u8], other: &CmacKey, two: &[u8]) -> ([u8; 16], [u8; 16])
+        requires one_more { 16 < length one.now }
+        requires one_most { length one.now ≤ 32 }
+        requires two_more { 16 < length two.now }
+        requires two_most { length two.now ≤ 32 }
+        ensures first { result.0 ≡ cmac self.now one.now }
+        ensures second { result.1 ≡ cmac other.now two.now }
+    {
+        let blocks_one = self.two_blocks(one);
+        let blocks_two = other.two_blocks(two);
+        let mut x = blocks_one.0;
+        let mut y = blocks_two.0;
+        self.cipher.encrypt_both(&mut x, &other.cipher, &mut y);
+        let mut last_x = block_sum(&x, &blocks_one.1);
+        let mut last_y = block_sum(&y, &blocks_two.1);
+        self.cipher
+            .encrypt_both(&mut last_x, &other.cipher, &mut last_y);
+        (last_x, last_y)
+    }
+
+    // The two blocks of a message of 17 to 32 bytes, as they go into the chain.
+    fn two_blocks(&self, message: &[u8]) -> ([u8; 16], [u8; 16])
+        requires more { 16 < length message.now }
+        requires most { length message.now ≤ 32 }
+        ensures { aes self.now (block_sum (aes self.now result.0) result.1) ≡ cmac self.now message.now }
+    {
+        let (front, rest) = message.split_at(16);
+        (first_sum(front), self.last_block(rest))
+    }
+
+    // The tag from the state of the chain before a message, or before the rest of one.
+    pub(crate) fn tag_from(&self, x: [u8; 16], message: &[u8]) -> [u8; 16]
+        ensures { result ≡ chain self.now x (blocks self.now message.now) }
+    {
+        let mut x = x;
         let (front, rest) = message.split_at(16 * (message.len().saturating_sub(1) / 16));
         let (blocks, _) = front.as_chunks::<16>();
         // The last block is ready before the chain comes to it.
@@ -95,4 +153,14 @@ impl CmacKey {
             None => block_sum(&padded_block(rest), &self.padded),
         }
     }
+}
+
+/// The first block of a message as it goes into the chain, which begins with the block of zeros.
+pub(crate) fn first_sum(block: &[u8]) -> [u8; 16]
+    requires { length block.now ≡ 16 }
+    ensures { result ≡ block_sum zero_block block.now }
+{
+    let mut first = [0; 16];
+    first.copy_from_slice(block);
+    block_sum(&[0; 16], &first)
 }

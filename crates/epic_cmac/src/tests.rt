@@ -2,7 +2,7 @@
 
 ghost use Rattle.std.specs.Prelude.{◌<◌};
 
-use crate::{CmacState, cmac};
+use crate::{CmacKey, CmacState, cmac};
 
 const KEY: [u8; 16] = *b"\x2b\x7e\x15\x16\x28\xae\xd2\xa6\xab\xf7\x15\x88\x09\xcf\x4f\x3c";
 
@@ -62,4 +62,16 @@ fn tags_the_examples(rt: HostRuntime) {
             );
         }
     }
+}
+
+#[test]
+fn tags_two_messages_side_by_side(rt: HostRuntime) {
+    // The example of NIST SP 800-38B for 20 bytes
+    let tag: [u8; 16] = *b"\x7d\x85\x44\x9e\xa6\xea\x19\xc8\x23\xa7\xbf\x78\x83\x7d\xfa\xde";
+    let key = CmacKey::new(&KEY);
+    let message = &MESSAGE[..20];
+    assert_eq!(rt; cmac(&KEY, message), tag);
+    let (one, two) = key.tag_both(message, &key, message);
+    assert_eq!(rt; one, tag);
+    assert_eq!(rt; two, tag);
 }
