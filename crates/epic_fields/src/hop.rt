@@ -19,14 +19,6 @@ pub fn authenticator(fk: &[u8; 16], body: &Body) -> [u8; 16]
     cmac(fk, &authenticator_message(body))
 }
 
-/// The same under a forwarding key that was made ready before.
-#[tactic(auto, unfolding(crate::specs::Formulas::authenticator))]
-pub fn authenticator_by(key: &CmacKey, body: &Body) -> [u8; 16]
-    ensures { result ≡ formulas.authenticator key.now body.now }
-{
-    key.tag(&authenticator_message(body))
-}
-
 /// A hop's link tag, under the forwarding key of its AS. The next hop of its segment carries it.
 #[tactic(auto, unfolding(crate::specs::Formulas::link_tag))]
 pub fn link_tag(fk: &[u8; 16], body: &Body) -> [u8; 8]
@@ -35,12 +27,15 @@ pub fn link_tag(fk: &[u8; 16], body: &Body) -> [u8; 8]
     first_eight(&cmac(fk, &link_message(body)))
 }
 
-/// The same under a forwarding key that was made ready before.
-#[tactic(auto, unfolding(crate::specs::Formulas::link_tag))]
-pub fn link_tag_by(key: &CmacKey, body: &Body) -> [u8; 8]
-    ensures { result ≡ formulas.link_tag key.now body.now }
+/// A hop's authenticator and its link tag, under a forwarding key that was made ready before. The two are made side by side, in
+/// less time than one after the other.
+#[tactic(auto, unfolding(crate::specs::Formulas::authenticator, crate::specs::Formulas::link_tag))]
+pub fn authenticator_and_link_tag_by(key: &CmacKey, body: &Body) -> ([u8; 16], [u8; 8])
+    ensures authenticator { result.0 ≡ formulas.authenticator key.now body.now }
+    ensures link_tag { result.1 ≡ formulas.link_tag key.now body.now }
 {
-    first_eight(&key.tag(&link_message(body)))
+    let (sigma, link) = key.tag_both(&authenticator_message(body), key, &link_message(body));
+    (sigma, first_eight(&link))
 }
 
 /// A hop's field at level 0, from the hop's authenticator.

@@ -12,7 +12,7 @@ mod tests;
 
 pub use destination::{are_updates, dest_domain, dest_tag};
 pub use hop::{
-    authenticator, authenticator_by, field_part, field0, field1, field23, link_tag, link_tag_by,
+    authenticator, authenticator_and_link_tag_by, field_part, field0, field1, field23, link_tag,
     update_part,
 };
 pub use laws::tags_look_at_no_field;

@@ -54,11 +54,9 @@ fn hops_have_the_tags_of_other_programs(rt: HostRuntime) {
     assert_eq!(rt; link_tag(&key, &BODY), 0xf02fdcef5be86197_u64.to_be_bytes());
     assert_eq!(rt; field0(&sigma), [0x54, 0x5a, 0x3e]);
     let ready = CmacKey::new(&key);
-    assert_eq!(rt; authenticator_by(&ready, &BODY), sigma);
-    assert_eq!(rt;
-        link_tag_by(&ready, &BODY),
-        0xf02fdcef5be86197_u64.to_be_bytes()
-    );
+    let (authenticator, link) = authenticator_and_link_tag_by(&ready, &BODY);
+    assert_eq!(rt; authenticator, sigma);
+    assert_eq!(rt; link, 0xf02fdcef5be86197_u64.to_be_bytes());
 }
 
 #[test]
