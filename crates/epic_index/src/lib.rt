@@ -1,5 +1,9 @@
 //! An index of what a ledger file says: the first row of each key.
 #![tactic(auto)]
 
+mod index;
 mod key;
+mod step;
 mod table;
+
+pub use index::Index;
