@@ -1,2 +1,4 @@
+pub mod Answering
+pub mod RevealKeys
 pub mod Seeking
 pub mod Steps

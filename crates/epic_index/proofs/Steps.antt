@@ -14,7 +14,7 @@ use Rattle.epic_ledger.specs.OneMore.{with_event}
 use Rattle.epic_ledger.specs.declared.event.Event.{Event}
 use Rattle.epic_ledger.specs.declared.event.Event.TheVariants as event
 use Rattle.epic_index.specs.Stepping.{at_step, stepped}
-use Rattle.epic_index.specs.Indexes.{history_of, IsIndexOf}
+use Rattle.epic_index.specs.Indexes.{history_of, IsApart}
 
 -- ---- one event
 
@@ -126,19 +126,19 @@ passes_stepped h steps e = filter_stepped (as_pass h.emissions) (pass_at_step h.
 
 -- ---- an index with one event more
 
-pub index_fits : (h later : History) (steps : List ℕ) (e a : Event) → IsIndexOf h steps → later ≡ h → a ≡ at_step 0 e → Fits h.emissions (issues_in (stepped steps h.events)) e → Fits later.emissions (issues_in later.events) a
+pub index_fits : (h later : History) (steps : List ℕ) (e a : Event) → IsApart h steps → later ≡ h → a ≡ at_step 0 e → Fits h.emissions (issues_in (stepped steps h.events)) e → Fits later.emissions (issues_in later.events) a
 index_fits h later steps e a i same at fits =
     rw (same, at) (fits_at_step h.emissions (issues_in h.events) 0 e (rw (issues_stepped h steps i.count) at fits))
 
-pub index_push : (h later : History) (steps : List ℕ) (e : Event) → IsIndexOf h steps → later.events ≡ h.events ++ at_step 0 e ∷ [] → IsIndexOf later (steps ++ step_of e ∷ [])
+pub index_push : (h later : History) (steps : List ℕ) (e : Event) → IsApart h steps → later.events ≡ h.events ++ at_step 0 e ∷ [] → IsApart later (steps ++ step_of e ∷ [])
 index_push h later steps e i g = record {
   count = simp (g, length-append) (omega (arith, i.count));
   at_start = rw g (All-push (λ x. step_of x ≤ 0) h.events (at_step 0 e) i.at_start (omega (arith, step_at_step 0 e)));
 }
 
-history_push : (h : History) (steps : List ℕ) (e : Event) → IsIndexOf h steps → stepped (steps ++ step_of e ∷ []) (h.events ++ at_step 0 e ∷ []) ≡ stepped steps h.events ++ e ∷ []
+pub history_push : (h : History) (steps : List ℕ) (e : Event) → IsApart h steps → stepped (steps ++ step_of e ∷ []) (h.events ++ at_step 0 e ∷ []) ≡ stepped steps h.events ++ e ∷ []
 history_push h steps e i =
     stepped_push steps h.events (step_of e) (at_step 0 e) i.count ∙ ap (λ (x : Event). stepped steps h.events ++ x ∷ []) (back_at_step 0 e)
 
-pub history_more : (h later : History) (steps : List ℕ) (e : Event) → IsIndexOf h steps → later.events ≡ h.events ++ at_step 0 e ∷ [] → later.emissions ≡ h.emissions → history_of later (steps ++ step_of e ∷ []) ≡ with_event (history_of h steps) e
+pub history_more : (h later : History) (steps : List ℕ) (e : Event) → IsApart h steps → later.events ≡ h.events ++ at_step 0 e ∷ [] → later.emissions ≡ h.emissions → history_of later (steps ++ step_of e ∷ []) ≡ with_event (history_of h steps) e
 history_more h later steps e i g same = rw (g, same, history_push h steps e i)

@@ -6,7 +6,9 @@ ghost use Rattle.epic_ledger.specs.Facts.{issues_in};
 ghost use Rattle.epic_ledger.specs.Lawful.{Fits};
 ghost use Rattle.epic_ledger.specs.OneMore.{with_event, with_emission};
 
+use crate::reveals::{RevealKey, add_reveal};
 use crate::step::{at_start, step_of};
+use crate::table::Table;
 use epic_ledger::{Event, Ledger};
 use epic_num::{OutOfMemory, Place};
 use epic_topo::Topology;
@@ -26,9 +28,10 @@ const MAX_BYTES: u64 = 0x3fff_ffff;
 /// file's may: so its events stand at step 0, and their steps apart.
 #[derive(Drop)]
 pub struct Index<'a> {
-    topo: &'a Topology,
-    ledger: Ledger,
-    steps: Vec<u32>,
+    pub(crate) topo: &'a Topology,
+    pub(crate) ledger: Ledger,
+    pub(crate) steps: Vec<u32>,
+    pub(crate) reveals: Table<RevealKey>,
 }
 
 impl<'a> Model for Index<'a> {
@@ -38,12 +41,17 @@ impl<'a> Model for Index<'a> {
 
     ghost view = { λ x. record { network = x.topo.now; history = history_of x.ledger.history x.steps.items } };
 
-    ghost invariant = { λ x. IsIndexOf x.ledger.history x.steps.items };
+    ghost invariant = { λ x. IsIndexOf x.ledger.history x.steps.items x.reveals.keys };
 }
 
 /// Makes room for so many more events, emissions and emitted bytes. Where the ledger would have more than it holds,
 /// memory is wanting, too.
-fn make_room(ledger: &mut Ledger, events: u32, emissions: u32, bytes: u64) -> Result<(), OutOfMemory>
+fn make_room(
+    ledger: &mut Ledger,
+    events: u32,
+    emissions: u32,
+    bytes: u64,
+) -> Result<(), OutOfMemory>
     ensures history { ledger.new.history ≡ ledger.old.history }
     ensures events { OnOk result (events ≤ ledger.new.spare.events) }
     ensures emissions { OnOk result (emissions ≤ ledger.new.spare.emissions) }
@@ -72,6 +80,7 @@ impl<'a> Index<'a> {
             topo,
             ledger: Ledger::new(alloc),
             steps: Vec::new(alloc),
+            reveals: Table::new(alloc),
         }
     }
 
@@ -98,6 +107,10 @@ impl<'a> Index<'a> {
         if self.steps.reserve(1).is_err() {
             return Err(OutOfMemory);
         }
+        if self.reveals.reserve(1).is_err() {
+            return Err(OutOfMemory);
+        }
+        add_reveal(&mut self.reveals, &event);
         self.steps.push_reserved(step_of(&event));
         self.ledger.push(at_start(event));
         Ok(())

@@ -3,6 +3,8 @@
 
 mod index;
 mod key;
+mod queries;
+mod reveals;
 mod step;
 mod table;
 

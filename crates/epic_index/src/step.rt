@@ -28,7 +28,10 @@ pub fn at_start(event: Event) -> Event
 {
     match event {
         Event::Issue {
-            no, name, parent, ..
+            no,
+            name,
+            parent,
+            ..
         } => Event::Issue {
             step: 0,
             no,
@@ -47,7 +50,9 @@ pub fn at_start(event: Event) -> Event
             epoch,
         },
         Event::Send {
-            emission, segments, ..
+            emission,
+            segments,
+            ..
         } => Event::Send {
             step: 0,
             emission,

@@ -1,14 +1,24 @@
-use Rattle.epic_index.proofs.Steps.{index_fits, index_push, history_more}
+use Rattle.epic_index.proofs.RevealKeys.{index_more}
+use Rattle.epic_index.proofs.Steps.{index_fits, history_more}
 use Rattle.epic_index.proofs.index.Index.add_event.Goals as goal
 
 pub push-requires-clause-fits : goal.push-requires-clause-fits
 push-requires-clause-fits c =
-    index_fits _ _ _ c.args.event _ c.self.invariant c.make_room.ensures.history c.at_start.ensures (rw (← c.self.view_is) at c.requires.fits)
+    index_fits _ _ _ c.args.event _ c.self.invariant.apart c.make_room.ensures.history c.at_start.ensures (rw (← c.self.view_is) at c.requires.fits)
 
 pub invariant_of-self-2 : goal.invariant_of-self-2
 invariant_of-self-2 c =
     rw (c.push_reserved.ensures.items, c.reserve.ensures.items, c.step_of.ensures)
-    (index_push _ _ _ c.args.event c.self.invariant (rw (c.at_start.ensures, c.make_room.ensures.history) at c.push.ensures.events))
+    (index_more
+    _
+    _
+    _
+    c.args.event
+    _
+    _
+    c.self.invariant
+    (rw (c.at_start.ensures, c.make_room.ensures.history) at c.push.ensures.events)
+    (rw c.reserve-2.ensures.keys at c.add_reveal.ensures))
 
 pub returns-clause-history : goal.returns-clause-history
 returns-clause-history c =
@@ -18,6 +28,6 @@ returns-clause-history c =
     _
     _
     c.args.event
-    c.self.invariant
+    c.self.invariant.apart
     (rw (c.at_start.ensures, c.make_room.ensures.history) at c.push.ensures.events)
     (rw c.make_room.ensures.history at c.push.ensures.emissions))
