@@ -1,8 +1,10 @@
 -- The ledger of an index answers as the index's history does.
-use Rattle.std.proofs.Common.{◌≡◌, ℕ, Bool, true, false, List, [], ◌∷◌, length, Option, Some, None, refl, sym, ap, ◌∙◌, arith}
-use Rattle.std.specs.Prelude.{is_some, find, option_map, if◌then◌else◌}
+use Rattle.std.proofs.Common.{◌≡◌, ℕ, zero, suc, ◌≤◌, add-one, Bool, true, false, List, [], ◌∷◌, length, Option, Some, None, refl, sym, ap, ◌∙◌, arith}
+use Rattle.std.specs.Prelude.{is_some, find, slice_get, ◌+◌, option_map, if◌then◌else◌}
 use Rattle.std.specs.List.{filter_map}
 use Rattle.std.specs.Option.{option_map_or}
+use Rattle.epic_num.proofs.ChainLaws.{issue_at-suc}
+use Rattle.epic_num.specs.Chains.{Issue, issue_at}
 use Rattle.epic_num.specs.Same.{same_holder}
 use Rattle.epic_num.specs.declared.hop.HopName.{HopName}
 use Rattle.epic_num.specs.declared.key_name.Holder.{Holder}
@@ -69,3 +71,19 @@ pub index_revealed : (h : History) (steps : List ℕ) (x : Holder) (o : Option �
 unfolding facts_of is_revealed reveal_of
 index_revealed h steps x o i e =
     ap is_some e ∙ is_some-map (λ r. r.step) (find (λ r. same_holder r.holder x) (reveals_in h.events)) ∙ sym (reveals_stepped steps h.events x i.count)
+
+no_name_at_all : (issues : List Issue) (row : ℕ) → length issues ≤ row → None ≡ option_map (λ i. i.name) (slice_get issues row)
+no_name_at_all [] row h = refl
+no_name_at_all (x ∷ xs) zero h = absurd (omega arith)
+no_name_at_all (x ∷ xs) (suc row) h = no_name_at_all xs row (omega arith)
+
+pub no_name_at : (h : History) (steps : List ℕ) (row : ℕ) → IsApart h steps → length (facts_of h).issues ≤ row → None ≡ option_map (λ i. i.name) (slice_get (facts_of (history_of h steps)).issues row)
+no_name_at h steps row i e = rw (index_issues h steps i) (no_name_at_all (facts_of h).issues row e)
+
+first_of_both : (o : Option Issue) → option_map (λ x. x.0) (option_map {U = HopName × ℕ} (λ i. (i.name, i.parent)) o) ≡ option_map (λ i. i.name) o
+first_of_both None = refl
+first_of_both (Some i) = refl
+
+pub name_there : (h : History) (steps : List ℕ) (row : ℕ) (o p : Option (HopName × ℕ)) → IsApart h steps → o ≡ option_map (λ i. (i.name, i.parent)) (issue_at (facts_of h).issues (row + 1)) → o ≡ p → option_map (λ x. x.0) p ≡ option_map (λ i. i.name) (slice_get (facts_of (history_of h steps)).issues row)
+name_there h steps row o p i e q =
+    rw (index_issues h steps i, ← q, e, add-one, issue_at-suc (facts_of h).issues row) (first_of_both (slice_get (facts_of h).issues row))

@@ -10,7 +10,7 @@ use Rattle.epic_num.specs.declared.key_name.Holder.{Holder}
 use Rattle.epic_num.specs.declared.key_name.Holder.TheVariants.{As, Host}
 use Rattle.epic_audit.proofs.Finds.{found_at, missing_at, missing, none_there, any_there}
 use Rattle.epic_ledger.proofs.Logging.{position-map}
-use Rattle.epic_ledger.specs.Facts.{Reveal, as_reveal, reveals_in, facts_of}
+use Rattle.epic_ledger.specs.Facts.{Reveal, as_reveal, reveals_in, issues_in, facts_of}
 use Rattle.epic_ledger.specs.History.{History, step_of}
 use Rattle.epic_ledger.specs.declared.event.Event.{Event}
 use Rattle.epic_index.specs.Asked.{is_revealed_at}
@@ -18,6 +18,10 @@ use Rattle.epic_index.specs.Indexes.{history_of, IsApart, IsIndexOf}
 use Rattle.epic_index.specs.Keys.{holder_key, reveal_key}
 use Rattle.epic_index.specs.Stepping.{at_step, stepped}
 use Rattle.epic_index.specs.declared.reveals.RevealKey.{RevealKey}
+use Rattle.epic_index.specs.Twins.{twin_keys}
+use Rattle.epic_index.specs.declared.twins.TwinKey.{TwinKey}
+use Rattle.epic_topo.specs.Network.{Network}
+use Rattle.epic_index.proofs.TwinKeys.{issued_push}
 use Rattle.epic_index.proofs.Steps.{history_push, index_push}
 
 abbrev key_eq : RevealKey → RevealKey → Bool
@@ -88,12 +92,13 @@ revealed_push : (h : History) (steps : List ℕ) (e : Event) (keys : List Reveal
 revealed_push h steps e keys i k =
     rw (k, history_push h steps e i, filter_map-append as_reveal (stepped steps h.events) (e ∷ [])) (sym (map-append reveal_key (reveals_in (stepped steps h.events)) (reveals_in (e ∷ []))))
 
-pub index_more : (h later : History) (steps : List ℕ) (e : Event) (keys more : List RevealKey) → IsIndexOf h steps keys → later.events ≡ h.events ++ at_step 0 e ∷ [] → more ≡ keys ++ map reveal_key (reveals_in (e ∷ [])) → IsIndexOf later (steps ++ step_of e ∷ []) more
-index_more h later steps e keys more i g k = record {
+pub index_more : (t : Network) (h later : History) (steps : List ℕ) (e : Event) (keys more : List RevealKey) (twins mores : List TwinKey) → IsIndexOf t h steps keys twins → later.events ≡ h.events ++ at_step 0 e ∷ [] → more ≡ keys ++ map reveal_key (reveals_in (e ∷ [])) → mores ≡ twins ++ twin_keys t (issues_in (e ∷ [])) → IsIndexOf t later (steps ++ step_of e ∷ []) more mores
+index_more t h later steps e keys more twins mores i g k j = record {
   apart = index_push h later steps e i.apart g;
   revealed = rw g (k ∙ revealed_push h steps e keys i.apart i.revealed);
+  issued = rw g (j ∙ issued_push t h.events e twins i.issued);
 }
 
-pub index_revealed_at : (h : History) (steps : List ℕ) (keys : List RevealKey) (x : Holder) (step : ℕ) (key : RevealKey) (o : Option ℕ) → IsIndexOf h steps keys → key ≡ reveal_key (record { step = step; holder = x }) → o ≡ position (key_eq key) keys → is_some o ≡ is_revealed_at (facts_of (history_of h steps)).reveals step x
+pub index_revealed_at : (t : Network) (h : History) (steps : List ℕ) (keys : List RevealKey) (twins : List TwinKey) (x : Holder) (step : ℕ) (key : RevealKey) (o : Option ℕ) → IsIndexOf t h steps keys twins → key ≡ reveal_key (record { step = step; holder = x }) → o ≡ position (key_eq key) keys → is_some o ≡ is_revealed_at (facts_of (history_of h steps)).reveals step x
 unfolding facts_of
-index_revealed_at h steps keys x step key o i k f = reveal_found (reveals_in (stepped steps h.events)) keys x step key o i.revealed k f
+index_revealed_at t h steps keys twins x step key o i k f = reveal_found (reveals_in (stepped steps h.events)) keys x step key o i.revealed k f

@@ -18,7 +18,7 @@ use Rattle.epic_index.specs.Indexes.{history_of, IsApart}
 
 -- ---- one event
 
-issue_at_step : (s : ℕ) (e : Event) → as_issue (at_step s e) ≡ as_issue e
+pub issue_at_step : (s : ℕ) (e : Event) → as_issue (at_step s e) ≡ as_issue e
 unfolding as_issue at_step
 issue_at_step s (event.Issue step number name parent) = refl
 issue_at_step s (event.Fetch step source owner epoch) = refl

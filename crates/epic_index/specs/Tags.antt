@@ -1,5 +1,6 @@
 -- The number that a key's order looks at first is a tag of the key.
-use Rattle.std.specs.Prelude.{◌≡◌, ℕ}
+use Rattle.std.proofs.Common.{ap}
+use Rattle.std.specs.Prelude.{◌≡◌, ℕ, ◌%◌, ◌^◌}
 use Rattle.std.specs.Ordering.{nat_cmp, ordering_then}
 use Rattle.std.specs.declared.cmp.Ordering.{Ordering}
 use Rattle.std.specs.declared.cmp.Ordering.TheVariants.{Less, Equal, Greater}
@@ -13,3 +14,7 @@ first_equal Greater q e = absurd (cc)
 -- where the first part of a key is a number and the key is as another one, that number is as the other's
 pub first_same : (m n : ℕ) (q : Ordering) → ordering_then (nat_cmp m n) q ≡ Equal → m ≡ n
 first_same m n q e = same_number m n (first_equal (nat_cmp m n) q e)
+
+-- and so is the lower half of it
+pub first_alike : (m n : ℕ) (q : Ordering) → ordering_then (nat_cmp m n) q ≡ Equal → m % 2 ^ 32 ≡ n % 2 ^ 32
+first_alike m n q e = ap (λ (k : ℕ). k % 2 ^ 32) (first_same m n q e)

@@ -4,11 +4,13 @@ ghost use Rattle.epic_num.specs.Levels.{is_first_byte};
 ghost use Rattle.epic_layout.specs.Layout.{fault};
 ghost use Rattle.epic_ledger.specs.Facts.{issues_in};
 ghost use Rattle.epic_ledger.specs.Lawful.{Fits};
+ghost use Rattle.epic_index.specs.Twins.{IsIssuerIn};
 ghost use Rattle.epic_ledger.specs.OneMore.{with_event, with_emission};
 
 use crate::reveals::{RevealKey, add_reveal};
 use crate::step::{at_start, step_of};
 use crate::table::Table;
+use crate::twins::{TwinKey, add_issue};
 use epic_ledger::{Event, Ledger};
 use epic_num::{OutOfMemory, Place};
 use epic_topo::Topology;
@@ -32,6 +34,7 @@ pub struct Index<'a> {
     pub(crate) ledger: Ledger,
     pub(crate) steps: Vec<u32>,
     pub(crate) reveals: Table<RevealKey>,
+    pub(crate) twins: Table<TwinKey>,
 }
 
 impl<'a> Model for Index<'a> {
@@ -41,7 +44,7 @@ impl<'a> Model for Index<'a> {
 
     ghost view = { λ x. record { network = x.topo.now; history = history_of x.ledger.history x.steps.items } };
 
-    ghost invariant = { λ x. IsIndexOf x.ledger.history x.steps.items x.reveals.keys };
+    ghost invariant = { λ x. IsIndexOf x.topo.now x.ledger.history x.steps.items x.reveals.keys x.twins.keys };
 }
 
 /// Makes room for so many more events, emissions and emitted bytes. Where the ledger would have more than it holds,
@@ -81,6 +84,7 @@ impl<'a> Index<'a> {
             ledger: Ledger::new(alloc),
             steps: Vec::new(alloc),
             reveals: Table::new(alloc),
+            twins: Table::new(alloc),
         }
     }
 
@@ -96,9 +100,10 @@ impl<'a> Index<'a> {
         Ok(())
     }
 
-    /// Adds an event.
+    /// Adds an event. The AS of an issue is of the topology.
     pub fn add_event(&mut self, event: Event) -> Result<(), OutOfMemory>
         requires fits { Fits self.old.history.emissions (issues_in self.old.history.events) event }
+        requires issuer { IsIssuerIn self.old.network event }
         ensures network { self.new.network ≡ self.old.network }
         ensures history { OnOk result (self.new.history ≡ with_event self.old.history event) }
         ensures kept { OnErr result (self.new.history ≡ self.old.history) }
@@ -110,7 +115,11 @@ impl<'a> Index<'a> {
         if self.reveals.reserve(1).is_err() {
             return Err(OutOfMemory);
         }
+        if self.twins.reserve(1).is_err() {
+            return Err(OutOfMemory);
+        }
         add_reveal(&mut self.reveals, &event);
+        add_issue(&mut self.twins, self.topo, &event);
         self.steps.push_reserved(step_of(&event));
         self.ledger.push(at_start(event));
         Ok(())

@@ -7,5 +7,6 @@ mod queries;
 mod reveals;
 mod step;
 mod table;
+mod twins;
 
 pub use index::Index;

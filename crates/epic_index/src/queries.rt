@@ -1,15 +1,18 @@
 //! What an index answers.
-ghost use Rattle.std.specs.Prelude.{◌≡◌, option_map, is_some};
+ghost use Rattle.std.specs.Prelude.{◌≡◌, find, option_map, slice_get, IsTrue};
 ghost use Rattle.epic_num.specs.Chains.{issue_at};
 ghost use Rattle.epic_layout.specs.Layout.{parse};
 ghost use Rattle.epic_ledger.specs.Facts.{facts_of};
 ghost use Rattle.epic_ledger.specs.History.{emission_at};
 ghost use Rattle.epic_ledger.specs.Queries as queries;
+ghost use Rattle.epic_topo.specs.Network.{has};
 ghost use Rattle.epic_audit.specs.Reveals.{is_revealed};
+ghost use Rattle.epic_audit.specs.Verdicts.{is_twin};
 ghost use Rattle.epic_index.specs.Asked.{is_revealed_at};
 
 use crate::Index;
 use crate::reveals::key_of;
+use crate::twins::key_of as twin_key_of;
 use epic_num::{AsId, Holder, HopName, HostId};
 use epic_view::PacketRef;
 
@@ -77,5 +80,29 @@ impl<'a> Index<'a> {
         ensures { result ≡ is_revealed_at (facts_of self.now.history).reveals step holder.now }
     {
         self.reveals.first(key_of(holder, step)).is_some()
+    }
+
+    /// The name of an issue, the first of which is 0.
+    fn name_at(&self, row: u32) -> Option<HopName>
+        ensures { result ≡ option_map (λ i. i.name) (slice_get (facts_of self.now.history).issues row) }
+    {
+        if row >= self.ledger.issues() {
+            return None;
+        }
+        match self.ledger.issue(row + 1) {
+            Some((name, _)) => Some(name),
+            None => None,
+        }
+    }
+
+    /// The name of the first issue that is of the AS of `x`, which is of the topology, and has its authenticator.
+    pub fn twin_of(&self, x: &HopName) -> Option<HopName>
+        requires { IsTrue (has self.now.network x.now.asn) }
+        ensures { result ≡ option_map (λ i. i.name) (find (λ i. is_twin self.now.network x.now i.name) (facts_of self.now.history).issues) }
+    {
+        match self.twins.first(twin_key_of(self.topo, x)) {
+            Some(row) => self.name_at(row),
+            None => None,
+        }
     }
 }

@@ -13,12 +13,16 @@ invariant_of-self-2 c =
     _
     _
     _
+    _
     c.args.event
+    _
+    _
     _
     _
     c.self.invariant
     (rw (c.at_start.ensures, c.make_room.ensures.history) at c.push.ensures.events)
-    (rw c.reserve-2.ensures.keys at c.add_reveal.ensures))
+    (rw c.reserve-2.ensures.keys at c.add_reveal.ensures)
+    (rw c.reserve-3.ensures.keys at c.add_issue.ensures))
 
 pub returns-clause-history : goal.returns-clause-history
 returns-clause-history c =
@@ -31,3 +35,6 @@ returns-clause-history c =
     c.self.invariant.apart
     (rw (c.at_start.ensures, c.make_room.ensures.history) at c.push.ensures.events)
     (rw c.make_room.ensures.history at c.push.ensures.emissions))
+
+pub add_issue-requires-clause-issuer : goal.add_issue-requires-clause-issuer
+add_issue-requires-clause-issuer c = rw (← c.self.view_is) at c.requires.issuer
