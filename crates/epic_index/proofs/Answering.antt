@@ -1,7 +1,6 @@
 -- The ledger of an index answers as the index's history does.
 use Rattle.std.proofs.Common.{◌≡◌, ℕ, zero, suc, ◌≤◌, add-one, Bool, true, false, List, [], ◌∷◌, length, Option, Some, None, refl, sym, ap, ◌∙◌, arith}
-use Rattle.std.specs.Prelude.{is_some, find, slice_get, ◌+◌, option_map, if◌then◌else◌}
-use Rattle.std.specs.List.{filter_map}
+use Rattle.std.specs.Prelude.{is_some, find, slice_get, ◌+◌, option_map}
 use Rattle.std.specs.Option.{option_map_or}
 use Rattle.epic_num.proofs.ChainLaws.{issue_at-suc}
 use Rattle.epic_num.specs.Chains.{Issue, issue_at}
@@ -11,7 +10,7 @@ use Rattle.epic_num.specs.declared.key_name.Holder.{Holder}
 use Rattle.epic_num.specs.declared.name.HostId.{HostId}
 use Rattle.epic_audit.specs.Reveals.{is_revealed}
 use Rattle.epic_ledger.specs.History.{History}
-use Rattle.epic_ledger.specs.Facts.{Facts, Sent, Pass, Reveal, as_pass, as_reveal, facts_of, reveals_in}
+use Rattle.epic_ledger.specs.Facts.{Pass, as_pass, as_reveal, facts_of, reveals_in}
 use Rattle.epic_ledger.specs.Queries.{send_hop, pass_of, is_pass_of, reveal_of}
 use Rattle.epic_ledger.specs.declared.event.Event.{Event}
 use Rattle.epic_ledger.specs.declared.event.Event.TheVariants as event

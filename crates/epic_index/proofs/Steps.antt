@@ -1,15 +1,13 @@
 -- What the events of a history say, apart from their steps.
-use Rattle.std.proofs.Common.{◌≡◌, ℕ, ◌≤◌, length-append, Bool, true, false, List, [], ◌∷◌, ◌++◌, length, Option, Some, None, refl, sym, ap, ◌∙◌, arith}
-use Rattle.std.specs.Prelude.{position, is_some, find, map}
-use Rattle.std.specs.List.{All, filter_map}
+use Rattle.std.proofs.Common.{◌≡◌, ℕ, ◌≤◌, length-append, Bool, List, [], ◌∷◌, ◌++◌, length, Option, refl, sym, ap, ◌∙◌, arith}
+use Rattle.std.specs.Prelude.{position, map}
+use Rattle.std.specs.List.{filter_map}
 use Rattle.std.proofs.lemmas.List.Elements.{All-push}
 use Rattle.epic_num.specs.Chains.{Issue}
-use Rattle.epic_num.specs.Same.{same_holder}
-use Rattle.epic_num.specs.declared.key_name.Holder.{Holder}
 use Rattle.epic_ledger.specs.History.{History, Emission, step_of}
-use Rattle.epic_ledger.specs.Facts.{Facts, Sent, Pass, Reveal, as_issue, as_send, as_pass, as_reveal, issues_in, sends_in, passes_in, reveals_in, facts_of}
+use Rattle.epic_ledger.specs.Facts.{as_issue, as_send, as_pass, issues_in, sends_in, passes_in}
 use Rattle.epic_ledger.proofs.Logging.{position-map}
-use Rattle.epic_ledger.specs.Lawful.{Fits, IsLast}
+use Rattle.epic_ledger.specs.Lawful.{Fits}
 use Rattle.epic_ledger.specs.OneMore.{with_event}
 use Rattle.epic_ledger.specs.declared.event.Event.{Event}
 use Rattle.epic_ledger.specs.declared.event.Event.TheVariants as event

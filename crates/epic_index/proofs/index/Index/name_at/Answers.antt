@@ -1,4 +1,4 @@
-use Rattle.std.proofs.Common.{◌≡◌, arith}
+use Rattle.std.proofs.Common.{arith}
 use Rattle.epic_index.proofs.Answering.{no_name_at, name_there}
 use Rattle.epic_index.proofs.index.Index.name_at.Goals as goal
 
