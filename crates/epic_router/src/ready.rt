@@ -6,7 +6,7 @@ ghost use Rattle.epic_router.specs.Ready.{IsShared};
 ghost use Rattle.epic_topo.specs.Network.{has};
 
 use epic_cmac::CmacKey;
-use epic_fields::{authenticator_by, link_tag_by};
+use epic_fields::authenticator_and_link_tag_by;
 use epic_keys::{forwarding_key, host_key, master_key, secret_value};
 use epic_num::{AsId, Body, HostId, is_tagged};
 use epic_topo::Topology;
@@ -60,18 +60,12 @@ impl ForwardingKey {
         self.generation
     }
 
-    /// The authenticator of a hop.
-    pub fn authenticator(&self, body: &Body) -> [u8; 16]
-        ensures { result ≡ formulas.authenticator (forwarding_key self.now.master self.now.number) body.now }
+    /// The authenticator of a hop, and its link tag, which the next hop of its segment carries.
+    pub fn authenticator_and_link_tag(&self, body: &Body) -> ([u8; 16], [u8; 8])
+        ensures authenticator { result.0 ≡ formulas.authenticator (forwarding_key self.now.master self.now.number) body.now }
+        ensures link_tag { result.1 ≡ formulas.link_tag (forwarding_key self.now.master self.now.number) body.now }
     {
-        authenticator_by(&self.key, body)
-    }
-
-    /// The link tag of a hop, which the next hop of its segment carries.
-    pub fn link_tag(&self, body: &Body) -> [u8; 8]
-        ensures { result ≡ formulas.link_tag (forwarding_key self.now.master self.now.number) body.now }
-    {
-        link_tag_by(&self.key, body)
+        authenticator_and_link_tag_by(&self.key, body)
     }
 }
 

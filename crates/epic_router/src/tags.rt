@@ -1,11 +1,9 @@
 //! The tags of a packet's hops, under the keys that a router keeps ready.
 ghost use Rattle.std.specs.Prelude.{◌≡◌, ◌<◌, ℕ, List, IfOk, IsTrue};
 ghost use Rattle.std.specs.Result.{result_err};
-ghost use Rattle.epic_fields.specs.HopChecks.{has_link, hop_name};
 ghost use Rattle.epic_fields.specs.PacketTags.{field_over, update_over};
 ghost use Rattle.epic_keys.specs.Keys.{master_key};
 ghost use Rattle.epic_layout.specs.Contents.{as_field, hop_count};
-ghost use Rattle.epic_layout.specs.Route as route;
 ghost use Rattle.epic_num.specs.Levels.{is_tagged, width_of};
 ghost use Rattle.epic_num.specs.Tables.{first_row};
 ghost use Rattle.epic_router.specs.Acceptance.{IsAccepting, failing};
@@ -17,7 +15,7 @@ ghost use Rattle.epic_router.specs.Ready.{IsReady};
 use crate::accepted::Accepted;
 use crate::ready::ForwardingKey;
 use epic_fields::{carries_field, carries_link, field_part, tag_over, untagged_field, update_part};
-use epic_num::{AsId, Body, Check, Field, is_tagged};
+use epic_num::{AsId, Check, Field, is_tagged};
 use epic_topo::Topology;
 use epic_view::PacketRef;
 
@@ -77,17 +75,6 @@ fn hop_tags(sigma: &[u8; 16], shared: &[u8; 16], packet: &PacketRef<'_>, j: u8) 
 }
 
 impl Visit<'_, '_> {
-    /// Whether the next hop in construction order carries the link tag of hop `j`, whose body this is, under one forwarding
-    /// key of the AS.
-    fn link_fits(&self, key: &ForwardingKey, body: &Body, j: u8) -> bool
-        requires master { key.now.master ≡ master_key self.now.topo.now self.now.a }
-        requires body { body.now ≡ route.body self.now.packet.now.route j }
-        requires there { j < hop_count self.now.packet.now }
-        ensures { result ≡ has_link self.now.topo.now (hop_name self.now.a key.now.number self.now.packet.now j) self.now.packet.now j }
-    {
-        carries_link(&key.link_tag(body), self.packet, j)
-    }
-
     /// Tries hop `j` under one forwarding key of the AS.
     fn fit(&self, key: &ForwardingKey, j: u8) -> Fit
         requires master { key.now.master ≡ master_key self.now.topo.now self.now.a }
@@ -98,11 +85,12 @@ impl Visit<'_, '_> {
         ensures width { HasWidth self.now.packet.now result.update }
     {
         let body = self.packet.body(j);
-        let tags = hop_tags(&key.authenticator(&body), self.shared, self.packet, j);
+        let (sigma, link) = key.authenticator_and_link_tag(&body);
+        let tags = hop_tags(&sigma, self.shared, self.packet, j);
         let field = carries_field(&tags.field, self.packet, j);
         Fit {
             field,
-            both: field && self.link_fits(key, &body, j),
+            both: field && carries_link(&link, self.packet, j),
             update: tags.update,
         }
     }
