@@ -16,6 +16,8 @@ t_s = record {
   script = codes "s";
   capture = None;
   save = None;
+  ledger = None;
+  verdicts = None;
   makers = false;
   police = None;
 }
@@ -94,6 +96,11 @@ behind_dashes : after_run (codes "--" ∷ codes "--save" ∷ codes "s" ∷ [])
     ≡ runs_on (codes "--save") (codes "s") None None
 unfolding request_of run_of is_refused rows_in run_command police_of clap_on_literals
 behind_dashes = refl
+
+kept : after_run (codes "t" ∷ codes "--ledger" ∷ codes "l" ∷ codes "s" ∷ codes "--verdicts=v" ∷ [])
+    ≡ Some (Run (record t_s { ledger = Some (codes "l"); verdicts = Some (codes "v") }))
+unfolding request_of run_of is_refused rows_in run_command police_of clap_on_literals
+kept = refl
 
 -- ---- what clap refuses
 
@@ -212,6 +219,14 @@ saves_to_capture : after_run (codes "t" ∷ codes "s" ∷ codes "--capture=c" �
     ∷ []) ≡ None
 unfolding request_of run_of is_refused rows_in run_command police_of clap_on_literals
 saves_to_capture = refl
+
+ledger_to_saved : after_run (codes "t" ∷ codes "s" ∷ codes "--save=c" ∷ codes "--ledger=c" ∷ []) ≡ None
+unfolding request_of run_of is_refused rows_in run_command police_of clap_on_literals
+ledger_to_saved = refl
+
+ledger_to_verdicts : after_run (codes "t" ∷ codes "s" ∷ codes "--verdicts=c" ∷ codes "--ledger=c" ∷ []) ≡ None
+unfolding request_of run_of is_refused rows_in run_command police_of clap_on_literals
+ledger_to_verdicts = refl
 
 -- ---- the other words
 

@@ -26,6 +26,8 @@ names_in w = record {
   script = w.script.now;
   capture = option_map (λ name. name.now) w.capture;
   save = option_map (λ name. name.now) w.save;
+  ledger = option_map (λ name. name.now) w.ledger;
+  verdicts = option_map (λ name. name.now) w.verdicts;
   makers = w.makers;
   police = option_map policing_in w.police;
 }

@@ -25,6 +25,9 @@ pub record RunRequest : Type 0 where
   pub capture : Option (List ℕ)
   -- the file to which each emission is saved
   pub save : Option (List ℕ)
+  -- the file of what happened, and that of what was said of it
+  pub ledger : Option (List ℕ)
+  pub verdicts : Option (List ℕ)
   -- the report also says who made the fields of packets of level 1
   pub makers : Bool
   -- and which packets a source sent beyond its budget
@@ -46,10 +49,10 @@ reads_of (Hop key name) = name ∷ []
 reads_of (Run r) = r.topology ∷ r.script ∷ option_to_list r.capture
 reads_of (Gen seed packets) = []
 
--- and of those that are written
+-- and of those that are written, in the order in which they are made
 abbrev pub writes_of : Request → List (List ℕ)
 writes_of (Hop key name) = []
-writes_of (Run r) = option_to_list r.save
+writes_of (Run r) = option_to_list r.save ++ (option_to_list r.ledger ++ option_to_list r.verdicts)
 writes_of (Gen seed packets) = []
 
 -- a name that is written stands among those that are read, or twice among those that are written
@@ -101,6 +104,8 @@ run_with rows police = record {
   script = name_at (codes "script") rows;
   capture = first_of (codes "capture") rows;
   save = first_of (codes "save") rows;
+  ledger = first_of (codes "ledger") rows;
+  verdicts = first_of (codes "verdicts") rows;
   makers = bytes_eq (name_at (codes "makers") rows) (codes "true");
   police = police;
 }

@@ -17,13 +17,14 @@ option id = record (new_rule id) { long = Some id; action = Some Set }
 abbrev pub flag : Text → Rule
 flag id = record (new_rule id) { long = Some id; action = Some SetTrue }
 
--- `TOPOLOGY SCRIPT [--capture FILE] [--save FILE] [--makers] [--budget N] [--span N]`, without
--- `--help` and `--version`
+-- `TOPOLOGY SCRIPT [--capture FILE] [--save FILE] [--ledger FILE] [--verdicts FILE] [--makers]
+-- [--budget N] [--span N]`, without `--help` and `--version`
 unfoldable pub run_command : App
 run_command = record (new_app (codes "run")) {
   top = record (new_shape (codes "run")) {
     rules = positional (codes "topology") ∷ positional (codes "script")
         ∷ option (codes "capture") ∷ option (codes "save")
+        ∷ option (codes "ledger") ∷ option (codes "verdicts")
         ∷ flag (codes "makers") ∷ option (codes "budget") ∷ option (codes "span") ∷ [];
     no_binary_name = true;
     disable_help_flag = true;

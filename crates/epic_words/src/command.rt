@@ -48,6 +48,8 @@ fn run_command<'a>(alloc: Global) -> Result<Command<'a>, AllocError>
         .arg(positional(alloc, "script"))?
         .arg(option(alloc, "capture"))?
         .arg(option(alloc, "save"))?
+        .arg(option(alloc, "ledger"))?
+        .arg(option(alloc, "verdicts"))?
         .arg(flag(alloc, "makers"))?
         .arg(option(alloc, "budget"))?
         .arg(option(alloc, "span"))

@@ -10,6 +10,8 @@ const NAMES: RunWords<'static> = RunWords {
     script: "s",
     capture: None,
     save: None,
+    ledger: None,
+    verdicts: None,
     makers: false,
     police: None,
 };
@@ -54,6 +56,14 @@ fn words_of_run(rt: HostRuntime) -> Result<(), Fail> {
             "run t s --save=",
             RunWords {
                 save: Some(""),
+                ..NAMES
+            },
+        ),
+        (
+            "run t --verdicts=v s --ledger l",
+            RunWords {
+                ledger: Some("l"),
+                verdicts: Some("v"),
                 ..NAMES
             },
         ),
@@ -130,6 +140,11 @@ fn words_that_are_refused(rt: HostRuntime) -> Result<(), Fail> {
         "run t s --save t",
         "run t s --save s",
         "run t s --capture=c --save=c",
+        "run t s --ledger t",
+        "run t s --capture=c --verdicts c",
+        "run t s --save=d --ledger d",
+        "run t s --save=d --verdicts d",
+        "run t s --ledger=d --verdicts d",
         "run t s --makers --makers",
         "run t s --makers=1",
         "run t s --save --makers",

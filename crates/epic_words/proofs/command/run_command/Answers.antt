@@ -22,9 +22,13 @@ returns c =
     ∙ ap₂ with_rule script c.option.ensures.rule in
     let save = c.in_ok-arg-4.ensures.shape c.option-2.ensures.local
     ∙ ap₂ with_rule capture c.option-2.ensures.rule in
-    let makers = c.in_ok-arg-5.ensures.shape c.flag.ensures.local
-    ∙ ap₂ with_rule save c.flag.ensures.rule in
-    let budget = c.in_ok-arg-6.ensures.shape c.option-3.ensures.local
-    ∙ ap₂ with_rule makers c.option-3.ensures.rule in
-    IfOk-weaker c.arg-7.result _ _ (λ command adds. adds.shape c.option-4.ensures.local
-    ∙ ap₂ with_rule budget c.option-4.ensures.rule) c.arg-7.ensures
+    let ledger = c.in_ok-arg-5.ensures.shape c.option-3.ensures.local
+    ∙ ap₂ with_rule save c.option-3.ensures.rule in
+    let verdicts = c.in_ok-arg-6.ensures.shape c.option-4.ensures.local
+    ∙ ap₂ with_rule ledger c.option-4.ensures.rule in
+    let makers = c.in_ok-arg-7.ensures.shape c.flag.ensures.local
+    ∙ ap₂ with_rule verdicts c.flag.ensures.rule in
+    let budget = c.in_ok-arg-8.ensures.shape c.option-5.ensures.local
+    ∙ ap₂ with_rule makers c.option-5.ensures.rule in
+    IfOk-weaker c.arg-9.result _ _ (λ command adds. adds.shape c.option-6.ensures.local
+    ∙ ap₂ with_rule budget c.option-6.ensures.rule) c.arg-9.ensures

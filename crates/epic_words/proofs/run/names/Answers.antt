@@ -12,8 +12,10 @@ returns-clause-value c =
     c.unwrap_or-2.result c.get_str-2.ensures c.unwrap_or-2.ensures refl in
     let capture = value_read m (codes "capture") c.get_str-3.result c.get_str-3.ensures in
     let save = value_read m (codes "save") c.get_str-4.result c.get_str-4.ensures in
-    let makers = name_read m (codes "makers") c.get_str-5.result _
-    c.unwrap_or-3.result c.get_str-5.ensures c.unwrap_or-3.ensures refl in
+    let ledger = value_read m (codes "ledger") c.get_str-5.result c.get_str-5.ensures in
+    let verdicts = value_read m (codes "verdicts") c.get_str-6.result c.get_str-6.ensures in
+    let makers = name_read m (codes "makers") c.get_str-7.result _
+    c.unwrap_or-3.result c.get_str-7.ensures c.unwrap_or-3.ensures refl in
     let same : c.eq.result ≡ bytes_eq c.unwrap_or-3.result.now (codes "true") = search rules in
     let flagged = same ∙ ap (λ (value : List ℕ). bytes_eq value (codes "true")) makers in
     λ i. record {
@@ -21,6 +23,8 @@ returns-clause-value c =
       script = script i;
       capture = capture i;
       save = save i;
+      ledger = ledger i;
+      verdicts = verdicts i;
       makers = flagged i;
       police = option_map policing_in c.args.police;
     }
