@@ -116,7 +116,7 @@ grown_files (Some f) (Some g) name [] grows = λ q. ap (λ (files : Files). file
 grown_files (Some f) (Some g) name (byte ∷ text) grows = replaced f g name byte text grows
 
 pub does_grow : (name text : List ℕ) (old new : World) → Grows old.contents new.contents name text → Appends old.written new.written []
-    → Does (appends (Some name) text) old new
+    → Does (appends name text) old new
 unfolding appends
 does_grow name text old new grows written = record {
   output = let P = Appends old.written new.written in subst P (sym (printed-grown name text)) written;
@@ -125,7 +125,7 @@ does_grow name text old new grows written = record {
 
 -- a text up to a byte of it, and to a place in it
 pub appends-before : (name front : List ℕ) (byte : ℕ) (back : List ℕ)
-    → appends (Some name) (front ++ byte ∷ back) ≡ appends (Some name) front ++ Append name byte ∷ appends (Some name) back
+    → appends name (front ++ byte ∷ back) ≡ appends name front ++ Append name byte ∷ appends name back
 unfolding appends
 appends-before name [] byte back = refl
 appends-before name (first ∷ front) byte back = ap (λ more. Append name first ∷ more) (appends-before name front byte back)
@@ -149,6 +149,6 @@ emptied_files None new name is = tt
 emptied_files (Some f) None name is = absurd is
 emptied_files (Some f) (Some g) name is = emptied f g name is
 
-pub does_create : (name : List ℕ) (old new : World) → Replaces old.contents new.contents name [] → Appends old.written new.written [] → Does (creates (Some name)) old new
+pub does_create : (name : List ℕ) (old new : World) → Replaces old.contents new.contents name [] → Appends old.written new.written [] → Does (creates name) old new
 unfolding creates printed
 does_create name old new is written = record { output = written; files = emptied_files old.contents new.contents name is }

@@ -1,11 +1,12 @@
 -- The causes of ends, from what was written.
-use Rattle.std.proofs.Common.{◌≡◌, ℕ, Bool, cond, List, [], Option, Some, Result, Ok, Err, refl, sym, ap, ◌∙◌}
+use Rattle.std.proofs.Common.{◌≡◌, ℕ, Bool, cond, List, [], Some, Result, Ok, Err, refl, sym, ap, ◌∙◌}
 use Rattle.std.specs.Prelude.{IfOk}
 use Rattle.epic_ports.specs.Faults.{Rose}
 use Rattle.epic_ports.specs.Files.{KeepsFiles}
 use Rattle.epic_ports.specs.Written.{Appends, AppendsFront, WritesBefore}
 use Rattle.epic_ports.specs.declared.error.PortError.{PortError}
 use Rattle.epic_ports.specs.declared.error.PortError.TheVariants.{Failed, OutOfMemory}
+use Rattle.epic_app.specs.Kept.{Kept}
 use Rattle.epic_app.specs.Acts.{Act, Print, World, StopsAt, StopsBefore, prints}
 use Rattle.epic_app.specs.Doing.{alarm_status, ends}
 use Rattle.epic_app.specs.End.{HasCause, end_after}
@@ -50,11 +51,11 @@ pub memory_first : (old new : World) → KeepsFiles old.contents new.contents �
 memory_first old new keeps written = record { before = []; after = []; order = refl; done = does_nothing old new keeps written }
 
 -- the end of a command whose acts were done so
-pub acts_cause : (save : Option (List ℕ)) (acts : List Act) (alarm : Bool) (old new : World) (r : Result Bool PortError) → Performs save acts old new r
+pub acts_cause : (kept : List Kept) (acts : List Act) (alarm : Bool) (old new : World) (r : Result Bool PortError) → Performs kept acts old new r
     → IfOk r (λ b. b ≡ alarm) → HasCause (ends acts (alarm_status alarm) []) old new (end_after r)
-acts_cause save acts alarm old new (Ok b) done is = record {
+acts_cause kept acts alarm old new (Ok b) done is = record {
   is_ending = ap (λ (c : Bool). Some (cond {A = ℕ} c 1 0, [])) (sym is);
   done = done;
 }
-acts_cause save acts alarm old new (Err Failed) (stops, blamed) is = stops
-acts_cause save acts alarm old new (Err OutOfMemory) stops is = stops
+acts_cause kept acts alarm old new (Err Failed) (stops, blamed) is = stops
+acts_cause kept acts alarm old new (Err OutOfMemory) stops is = stops

@@ -1,5 +1,5 @@
 -- What is made of steps in turn.
-use Rattle.std.proofs.Common.{◌≡◌, List, [], ◌∷◌, ◌++◌, refl, sym, ap, ◌∙◌, append-nil, append_assoc}
+use Rattle.std.proofs.Common.{◌≡◌, List, [], ◌∷◌, ◌++◌, sym, ap, ◌∙◌, append-nil, append_assoc}
 use Rattle.epic_world.specs.Run.{Done}
 use Rattle.epic_app.specs.Along.{along}
 

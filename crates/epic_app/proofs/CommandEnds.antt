@@ -25,15 +25,18 @@ use Rattle.epic_app.specs.FilesRead.{IsEarly, Leads, follows}
 use Rattle.epic_app.specs.Generating.{gen_text, generated_steps}
 use Rattle.epic_app.specs.HopFile.{hop_rule}
 use Rattle.epic_app.specs.HopReport.{answers, hop_report, is_forged}
+use Rattle.epic_app.specs.Keeping.{kept_by}
+use Rattle.epic_app.specs.Kept.{names}
 use Rattle.epic_app.specs.Limits.{file_limit, script_limit}
 use Rattle.epic_app.specs.Outcome.{CountsStay, FilesStay}
 use Rattle.epic_app.specs.Readings.{AreRead, Reading, Unread, IsReading}
 use Rattle.epic_app.specs.RunEnding.{RunBlames, RunEnds}
-use Rattle.epic_words.specs.Request.{Request, Hop, Run, Gen, RunRequest, reads_of}
+use Rattle.epic_words.specs.Request.{Request, Hop, Run, Gen, RunRequest, reads_of, writes_of}
 use Rattle.epic_app.specs.Performing.{Blamed, OthersKeep, Works}
 use Rattle.epic_app.specs.RunReport.{has_alarm}
 use Rattle.epic_app.specs.Writing.{Writes}
 use Rattle.epic_app.proofs.ActFiles.{does_nothing}
+use Rattle.epic_app.proofs.Apart.{kept_names}
 use Rattle.epic_app.proofs.ActLaws.{memory_first, report_cause}
 use Rattle.epic_app.proofs.RanLaws.{blamed_later, cause_read, works_both, works_read}
 use Rattle.epic_app.proofs.FileLaws.{keeps_both, keeps_itself, later_by, reading_between}
@@ -189,7 +192,7 @@ unread_fits None = tt
 unread_fits (Some name) = (tt, tt)
 
 -- the counts that a run blames
-run_blames : (r : RunRequest) (old late new : World) (end : End) → RunBlames r.capture r.save late new end → Works r.save old late
+run_blames : (r : RunRequest) (old late new : World) (end : End) → RunBlames r.capture (kept_by r) late new end → Works (kept_by r) old late
     → ((q : List ℕ) → old.reads q ≤ late.reads q) → Blames (Run r) old new end
 run_blames r old late new (Done forged) blames works later = tt
 run_blames r old late new BadWords blames works later = tt
@@ -200,19 +203,22 @@ run_blames r old late new LongScript blames works later = tt
 run_blames r old late new (BadCapture damage) blames works later = tt
 run_blames r old late new (ReadFault name) (is, rose) works later =
     (behind_two r.topology r.script (option_to_list r.capture) name.now is, rose_in (old.reads name.now) (late.reads name.now) (new.reads name.now) (later name.now) rose)
-run_blames r old late new WriteFault blames works later = by r.save (blamed_later r.save old late new works blames)
+run_blames r old late new WriteFault blames works later = by (blamed_later (kept_by r) old late new works blames)
   where
-    by : (save : Option (List ℕ)) → Blamed save old new → Rose old.faults new.faults ⊎ ((name : List ℕ) × Contains (option_to_list save) name × Rose (old.writes name) (new.writes name))
-    by None rose = inl rose
-    by (Some name) (inl rose) = inl rose
-    by (Some name) (inr rose) = inr (name, (0, omega arith, refl), rose)
+    by : Blamed (kept_by r) old new → Rose old.faults new.faults ⊎ ((name : List ℕ) × Contains (writes_of (Run r)) name × Rose (old.writes name) (new.writes name))
+    by (inl rose) = inl rose
+    by (inr (name, among, rose)) = inr (name, subst (λ (all : List (List ℕ)). Contains all name) (kept_names r) among, rose)
 run_blames r old late new OutOfMemory blames works later = tt
 
--- files other than the saved one stay
-others_files : (r : RunRequest) (old new : Option Files) → OthersKeep r.save old new → FilesStay (Run r) old new
+-- a file that isn't written isn't kept
+not_kept : (r : RunRequest) (q : List ℕ) → ¬ Contains (writes_of (Run r)) q → ¬ Contains (names (kept_by r)) q
+not_kept r q absent = λ among. absent (subst (λ (all : List (List ℕ)). Contains all q) (kept_names r) among)
+
+-- files other than those that are kept stay
+others_files : (r : RunRequest) (old new : Option Files) → OthersKeep (kept_by r) old new → FilesStay (Run r) old new
 others_files r None new others = tt
 others_files r (Some f) None others = absurd others
-others_files r (Some f) (Some g) others = others
+others_files r (Some f) (Some g) others = λ q absent. others q (not_kept r q absent)
 
 -- a reading of the capture stays one
 captures_read : (capture : Option (List ℕ)) (readings : List Reading) (old late new : World) → KeepsFiles old.contents late.contents
@@ -305,10 +311,10 @@ module _ (r : RunRequest) (old mid late : World) (keeps : KeepsFiles old.content
   pub run_answered : (new : World) (commands : Vec Command) (end : End)
       → Leads mid.contents n (mid.reads n) (late.reads n) (on_commands n script_limit run_rule) (λ v. v.items) (Ok commands)
       → Appends old.written late.written [] → old.faults ≤ late.faults
-      → RunEnds r.capture r.save (showing r (length commands.items)) t commands.items late new end → EndsAs (Run r) old new end
+      → RunEnds r.capture (kept_by r) (showing r (length commands.items)) t commands.items late new end → EndsAs (Run r) old new end
   unfolding doing
   run_answered new commands end script nothing faults ended =
-      let works : Works r.save old late = works_read r.save old late all_keeps faults (same_on ∙ same) in
+      let works : Works (kept_by r) old late = works_read (kept_by r) old late all_keeps faults (same_on ∙ same) in
       let next : List Command → Progress = run_with r ended.readings t in
       record {
         readings = file.reading ∷ script.reading ∷ ended.readings;
@@ -326,7 +332,7 @@ module _ (r : RunRequest) (old mid late : World) (keeps : KeepsFiles old.content
         fits = ended.fits;
         counts = record {
           reads = λ q absent. ended.reads q (λ is. absent (behind_two m n rest q is)) ∙ read_counts q absent;
-          writes = λ q absent. ended.works.others q absent ∙ ap (λ (counts : List ℕ → ℕ). counts q) (same_on ∙ same);
+          writes = λ q absent. ended.works.others q (not_kept r q absent) ∙ ap (λ (counts : List ℕ → ℕ). counts q) (same_on ∙ same);
         };
-        files = others_files r old.contents new.contents (works_both r.save old late new works ended.works).files;
+        files = others_files r old.contents new.contents (works_both (kept_by r) old late new works ended.works).files;
       }

@@ -1,5 +1,5 @@
--- The words ask for a limited number of packets.
-use Rattle.std.proofs.Common.{◌≡◌, ℕ, ◌≤◌, cond, List, [], ◌∷◌, Option, Some, None, Result, Ok, Err, refl, arith}
+-- The words ask for a limited number of packets, and for files whose names differ where they are written.
+use Rattle.std.proofs.Common.{◌≡◌, ℕ, ◌≤◌, false, cond, List, [], ◌∷◌, Option, Some, None, Result, Ok, Err, refl, arith}
 use Rattle.std.specs.Prelude.{codes, bytes_eq, option_and_then, ⊤}
 use Rattle.std.proofs.lemmas.Bool.{cond_both}
 use Rattle.std.proofs.lemmas.Bool.Decides.{nat_tests}
@@ -10,11 +10,11 @@ use Rattle.epic_num.specs.Names.{number_of, within}
 use Rattle.epic_words.specs.Request.{Request, RunRequest, Hop, Run, Gen, gen_of, gen_request, hop_of, hop_request, number_in, request_of, run_of, run_request, shares_files, unless_shared}
 use Rattle.epic_words.specs.RunCommand.{is_refused, rows_in, run_command}
 
--- at most so many packets, where it is `gen` that is asked for
+-- at most so many packets, where it is `gen` that is asked for; and no file that is written has the name of another
 abbrev pub HasFew : Option Request → Type 0
 HasFew None = ⊤
 HasFew (Some (Hop key name)) = ⊤
-HasFew (Some (Run r)) = ⊤
+HasFew (Some (Run r)) = shares_files (Run r) ≡ false
 HasFew (Some (Gen seed packets)) = packets ≤ 100000
 
 few_hop : (name : List ℕ) (key : Result (List ℕ) FromHexError) → HasFew (hop_request name key)
@@ -30,7 +30,7 @@ few_hops (key ∷ name ∷ word ∷ words) = tt
 
 few_run : (o : Option RunRequest) → HasFew (option_and_then unless_shared o)
 few_run None = tt
-few_run (Some r) = cond_both (shares_files (Run r)) None (Some (Run r)) HasFew (λ f. tt) (λ f. tt)
+few_run (Some r) = cond_both (shares_files (Run r)) None (Some (Run r)) HasFew (λ f. tt) (λ f. f)
 
 few_runs : (words : List (List ℕ)) → HasFew (run_of words)
 unfolding run_of

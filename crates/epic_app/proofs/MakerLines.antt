@@ -1,5 +1,5 @@
 -- The line of a maker.
-use Rattle.std.proofs.Common.{◌≡◌, ℕ, ◌<◌, List, ◌∷◌, ◌++◌, length, codes, decimal, ap, sym, ◌∙◌, append_assoc, arith}
+use Rattle.std.proofs.Common.{◌≡◌, ℕ, ◌<◌, ◌∷◌, ◌++◌, length, codes, decimal, ap, sym, ◌∙◌, append_assoc, arith}
 use Rattle.epic_num.specs.declared.hop.HopName.{HopName}
 use Rattle.epic_layout.specs.Contents.{Contents}
 use Rattle.epic_topo.specs.Network.{Network}

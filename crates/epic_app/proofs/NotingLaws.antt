@@ -16,7 +16,6 @@ use Rattle.epic_topo.specs.Network.{Network}
 use Rattle.epic_ledger.specs.Facts.{Facts}
 use Rattle.epic_holders.specs.declared.maker.Maker.{Maker}
 use Rattle.epic_policer.specs.Policing.{Offer}
-use Rattle.epic_text.specs.Notes.{Noted}
 use Rattle.epic_app.specs.Showing.{Showing}
 use Rattle.epic_app.specs.Noting.{Coming, alarms, all_offered, coming, makers_at, noted_along, noted_at, offered, some_alarms}
 use Rattle.epic_app.proofs.RunLemmas.{any_last}

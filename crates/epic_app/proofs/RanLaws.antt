@@ -1,8 +1,7 @@
 -- Commands that a run does one after the other behind its script.
-use Rattle.std.proofs.Common.{◌≡◌, ℕ, ◌+◌, ◌-◌, ◌*◌, ◌/◌, ◌^◌, ◌≤◌, ◌||◌, min, Result, Ok, Err, OnOk, List, [], ◌∷◌, ◌++◌, length, flat_map, Option, Some, None, Contains, refl, sym, ap, subst, ◌∙◌, append-nil, append_assoc, length-append, arith}
+use Rattle.std.proofs.Common.{◌≡◌, ℕ, ◌+◌, ◌-◌, ◌*◌, ◌/◌, ◌^◌, ◌≤◌, ◌||◌, min, Result, Ok, Err, OnOk, List, [], ◌∷◌, ◌++◌, length, Option, Some, None, Contains, refl, sym, ap, subst, ◌∙◌, append-nil, append_assoc, length-append, arith}
 use Rattle.std.specs.Prelude.{IfErr}
 use Rattle.std.specs.List.{list_any}
-use Rattle.std.specs.Option.{option_map, option_to_list}
 use Rattle.std.proofs.lemmas.List.Folds.{list_any-append}
 use Rattle.std.proofs.lemmas.List.Concat.{flat_map-append}
 use Rattle.std.proofs.lemmas.List.Elements.{All-append, All-cons, All-nil}
@@ -22,6 +21,8 @@ use Rattle.epic_model.specs.State.{State}
 use Rattle.epic_model.specs.Steps.{next}
 use Rattle.epic_model.specs.World.{Fits}
 use Rattle.epic_world.specs.Run.{Done, done_by, run_from, state_after}
+use Rattle.epic_app.specs.Keeping.{kept_in}
+use Rattle.epic_app.specs.Kept.{Kept, names}
 use Rattle.epic_app.specs.declared.taking.Records.{Records}
 use Rattle.epic_app.specs.declared.end.End.{End}
 use Rattle.epic_app.specs.declared.end.End.TheVariants.{BadWords, BadTopology, LongTopology, BadScript, LongScript, BadCapture, ReadFault, WriteFault}
@@ -39,7 +40,7 @@ use Rattle.epic_app.specs.StepLines.{count_all}
 use Rattle.epic_app.specs.Showing.{Showing}
 use Rattle.epic_app.specs.Noting.{offers_of, shows_alarm}
 use Rattle.epic_app.specs.Policed.{ArePoliced}
-use Rattle.epic_app.specs.Taking.{IsAfter, Ran, StopsIn, acts_of, saved_by}
+use Rattle.epic_app.specs.Taking.{IsAfter, Ran, StopsIn, acts_of}
 use Rattle.epic_app.proofs.ActFiles.{does_both, does_nothing}
 use Rattle.epic_app.proofs.Acting.{blamed_in, fails_in, others_both, others_kept, stopped_later, stopped_more}
 use Rattle.epic_app.proofs.AlongLaws.{along-append}
@@ -48,36 +49,36 @@ use Rattle.epic_app.proofs.StepWriting.{keeps_all, nothing_done}
 
 -- ---- what stays
 
-pub works_of : (save : Option (List ℕ)) (old new : World) → Stays save old new → Works save old new
-works_of save old new stays = record { faults = stays.faults; later = stays.later; others = stays.others; files = stays.files }
+pub works_of : (kept : List Kept) (old new : World) → Stays kept old new → Works kept old new
+works_of kept old new stays = record { faults = stays.faults; later = stays.later; others = stays.others; files = stays.files }
 
-pub works_both : (save : Option (List ℕ)) (u v w : World) → Works save u v → Works save v w → Works save u w
-works_both save u v w first next = record {
+pub works_both : (kept : List Kept) (u v w : World) → Works kept u v → Works kept v w → Works kept u w
+works_both kept u v w first next = record {
   faults = omega (arith, first.faults, next.faults);
   later = λ q. omega (arith, first.later q, next.later q);
   others = λ q absent. next.others q absent ∙ first.others q absent;
-  files = others_both save u.contents v.contents w.contents first.files next.files;
+  files = others_both kept u.contents v.contents w.contents first.files next.files;
 }
 
 -- files that are read change nothing of that
-pub works_read : (save : Option (List ℕ)) (old new : World) → KeepsFiles old.contents new.contents → old.faults ≤ new.faults → new.writes ≡ old.writes
-    → Works save old new
-works_read save old new keeps later writes = record {
+pub works_read : (kept : List Kept) (old new : World) → KeepsFiles old.contents new.contents → old.faults ≤ new.faults → new.writes ≡ old.writes
+    → Works kept old new
+works_read kept old new keeps later writes = record {
   faults = later;
   later = λ q. omega (arith, ap (λ (counts : List ℕ → ℕ). counts q) writes);
   others = λ q absent. ap (λ (counts : List ℕ → ℕ). counts q) writes;
-  files = others_kept save old.contents new.contents keeps;
+  files = others_kept kept old.contents new.contents keeps;
 }
 
 -- a count that rose later rose over the whole
-pub blamed_later : (save : Option (List ℕ)) (u v w : World) → Works save u v → Blamed save v w → Blamed save u w
-blamed_later save u v w works blamed = blamed_in save u v w (works.faults, works.later) blamed
+pub blamed_later : (kept : List Kept) (u v w : World) → Works kept u v → Blamed kept v w → Blamed kept u w
+blamed_later kept u v w works blamed = blamed_in kept u v w (works.faults, works.later) blamed
 
 -- ---- causes
 
 -- some acts were done, and then others, of which an act failed
-stops_behind : (a b : List Act) (save : Option (List ℕ)) (u v w : World) → Does a u v → Works save u v → StopsAt b v w → StopsAt (a ++ b) u w
-stops_behind a b save u v w first works stops = record {
+stops_behind : (a b : List Act) (kept : List Kept) (u v w : World) → Does a u v → Works kept u v → StopsAt b v w → StopsAt (a ++ b) u w
+stops_behind a b kept u v w first works stops = record {
   before = a ++ stops.before;
   act = stops.act;
   after = stops.after;
@@ -98,7 +99,7 @@ decided_read : (p : Progress) (u v w : World) (status : ℕ) (line : List ℕ) �
 decided_read p u v w status line nothing by = record { is_ending = by.is_ending; done = does_both [] p.acts u v w nothing by.done }
 
 -- files that are read before change no cause
-pub cause_read : {save : Option (List ℕ)} (p : Progress) (u v w : World) (end : End) → Does [] u v → Works save u v → HasCause p v w end → HasCause p u w end
+pub cause_read : {kept : List Kept} (p : Progress) (u v w : World) (end : End) → Does [] u v → Works kept u v → HasCause p v w end → HasCause p u w end
 cause_read p u v w (ends.Done forged) nothing works cause = decided_read p u v w _ _ nothing cause
 cause_read p u v w BadWords nothing works cause = absurd cause
 cause_read p u v w (BadTopology kind key item) nothing works cause = decided_read p u v w _ _ nothing cause
@@ -107,7 +108,7 @@ cause_read p u v w (BadScript line kind) nothing works cause = decided_read p u 
 cause_read p u v w LongScript nothing works cause = decided_read p u v w _ _ nothing cause
 cause_read p u v w (BadCapture damage) nothing works cause = decided_read p u v w _ _ nothing cause
 cause_read p u v w (ReadFault name) nothing works cause = decided_read p u v w _ _ nothing cause
-cause_read {save} p u v w WriteFault nothing works cause = stops_behind [] p.acts save u v w nothing works cause
+cause_read {kept} p u v w WriteFault nothing works cause = stops_behind [] p.acts kept u v w nothing works cause
 cause_read p u v w ends.OutOfMemory nothing works cause = ends_behind [] p.acts u v w nothing cause
 
 -- ---- verdicts
@@ -128,7 +129,7 @@ unfolding state_after run_from all_verdicts count_all
 ran_none x w = record {
   network = refl;
   show = refl;
-  save = refl;
+  keep = refl;
   state = refl;
   steps = omega arith;
   counts = refl;
@@ -136,7 +137,7 @@ ran_none x w = record {
   alarm = sym (or_none x.tally.alarm);
   police = λ before after. subst (IsAfter x) (sym (append-nil before)) after;
   acts = λ before after. nothing_done w;
-  works = works_read (saved_by x) w w (keeps_all w.contents) (omega arith) refl;
+  works = works_read (kept_in x.keep) w w (keeps_all w.contents) (omega arith) refl;
   fits = All-nil Fits;
 }
 
@@ -146,7 +147,7 @@ pub ran_read : (x y : Records) (cs : List Command) (u v w : World) → Ran x y c
 ran_read x y cs u v w ran keeps later writes nothing = record {
   network = ran.network;
   show = ran.show;
-  save = ran.save;
+  keep = ran.keep;
   state = ran.state;
   steps = ran.steps;
   counts = ran.counts;
@@ -155,13 +156,13 @@ ran_read x y cs u v w ran keeps later writes nothing = record {
   police = ran.police;
   acts = λ before after. subst (λ (acts : List Act). Does acts u w) (append-nil (acts_of x before cs))
       (does_both (acts_of x before cs) [] u v w (ran.acts before after) nothing);
-  works = works_both (saved_by x) u v w ran.works (works_read (saved_by x) v w keeps later writes);
+  works = works_both (kept_in x.keep) u v w ran.works (works_read (kept_in x.keep) v w keeps later writes);
   fits = ran.fits;
 }
 
 module _ (x y : Records) (cs : List Command) (u v : World) (ran : Ran x y cs u v) where
-  same_save : saved_by y ≡ saved_by x
-  same_save = ap (option_map (λ name. name.now)) ran.save
+  same_files : kept_in y.keep ≡ kept_in x.keep
+  same_files = ap kept_in ran.keep
 
   -- the steps of these commands
   abbrev steps_done : List Done
@@ -170,11 +171,11 @@ module _ (x y : Records) (cs : List Command) (u v : World) (ran : Ran x y cs u v
   -- the acts of these commands and of others behind them
   pub acts_both : (before : List Done) (ds : List Command) → acts_of x before (cs ++ ds) ≡ acts_of x before cs ++ acts_of y (before ++ steps_done) ds
   acts_both before ds =
-      let f = step_acts (saved_by x) x.show x.world.network in
+      let f = step_acts (kept_in x.keep) x.show x.world.network in
       ap (along f before) (run_from-append x.world.network x.world.state cs ds)
       ∙ (along-append f before steps_done (run_from x.world.network (state_after x.world.network x.world.state cs) ds)
       ∙ sym (λ k. acts_of x before cs
-      ++ along (step_acts (same_save k) (ran.show k) (ran.network k)) (before ++ steps_done) (run_from (ran.network k) (ran.state k) ds)))
+      ++ along (step_acts (same_files k) (ran.show k) (ran.network k)) (before ++ steps_done) (run_from (ran.network k) (ran.state k) ds)))
 
   counts_both : (ds : List Command)
       → count_all y.tally.counts (all_verdicts (run_from y.world.network y.world.state ds)) ≡ count_all x.tally.counts (all_verdicts (run_from x.world.network x.world.state (cs ++ ds)))
@@ -214,11 +215,11 @@ module _ (x y : Records) (cs : List Command) (u v : World) (ran : Ran x y cs u v
 
   pub ran_both : (z : Records) (ds : List Command) (w : World) → Ran y z ds v w → Ran x z (cs ++ ds) u w
   ran_both z ds w then_ran =
-      let works : Works (saved_by x) v w = subst (λ (save : Option (List ℕ)). Works save v w) same_save then_ran.works in
+      let works : Works (kept_in x.keep) v w = subst (λ (kept : List Kept). Works kept v w) same_files then_ran.works in
       record {
         network = then_ran.network ∙ ran.network;
         show = then_ran.show ∙ ran.show;
-        save = then_ran.save ∙ ran.save;
+        keep = then_ran.keep ∙ ran.keep;
         state = then_ran.state ∙ ((λ k. state_after (ran.network k) (ran.state k) ds) ∙ sym (state_after-append x.world.network x.world.state cs ds));
         steps = omega (arith, ran.steps, then_ran.steps, length-append cs ds);
         counts = then_ran.counts ∙ counts_both ds;
@@ -228,27 +229,27 @@ module _ (x y : Records) (cs : List Command) (u v : World) (ran : Ran x y cs u v
         acts = λ before after. subst (λ (a : List Act). Does a u w) (sym (acts_both before ds))
             (does_both (acts_of x before cs) (acts_of y (before ++ steps_done) ds) u v w (ran.acts before after)
             (then_ran.acts (before ++ steps_done) (ran.police before after)));
-        works = works_both (saved_by x) u v w ran.works works;
+        works = works_both (kept_in x.keep) u v w ran.works works;
         fits = All-append Fits cs ds ran.fits then_ran.fits;
       }
 
   -- less was done of others behind them
   pub ran_stopped : (ds : List Command) (e : PortError) (w : World) → StopsIn y ds e v w → StopsIn x (cs ++ ds) e u w
   ran_stopped ds e w (stops, works) =
-      let wrote : Works (saved_by x) v w = subst (λ (save : Option (List ℕ)). Works save v w) same_save works in (
+      let wrote : Works (kept_in x.keep) v w = subst (λ (kept : List Kept). Works kept v w) same_files works in (
         λ before after.
             let behind = before ++ steps_done in
-            let less : Stopped (saved_by x) (acts_of y behind ds) v w e =
-            subst (λ (save : Option (List ℕ)). Stopped save (acts_of y behind ds) v w e) same_save (stops behind (ran.police before after)) in
-            subst (λ (a : List Act). Stopped (saved_by x) a u w e) (sym (acts_both before ds))
-            (stopped_later (saved_by x) (acts_of x before cs) (acts_of y behind ds) u v w e (ran.acts before after) ran.works less),
-        works_both (saved_by x) u v w ran.works wrote,
+            let less : Stopped (kept_in x.keep) (acts_of y behind ds) v w e =
+            subst (λ (kept : List Kept). Stopped kept (acts_of y behind ds) v w e) same_files (stops behind (ran.police before after)) in
+            subst (λ (a : List Act). Stopped (kept_in x.keep) a u w e) (sym (acts_both before ds))
+            (stopped_later (kept_in x.keep) (acts_of x before cs) (acts_of y behind ds) u v w e (ran.acts before after) ran.works less),
+        works_both (kept_in x.keep) u v w ran.works wrote,
       )
 
 -- less of the first commands is less of all
 pub stops_more : (x : Records) (cs ds : List Command) (e : PortError) (u v : World) → StopsIn x cs e u v → StopsIn x (cs ++ ds) e u v
 stops_more x cs ds e u v (stops, works) =
-    let f = step_acts (saved_by x) x.show x.world.network in
+    let f = step_acts (kept_in x.keep) x.show x.world.network in
     let t = x.world.network in
     let front = run_from t x.world.state cs in
     let back = run_from t (state_after t x.world.state cs) ds in (
@@ -256,7 +257,7 @@ stops_more x cs ds e u v (stops, works) =
           let rest = along f (before ++ front) back in
           let parts : acts_of x before (cs ++ ds) ≡ acts_of x before cs ++ rest =
           ap (along f before) (run_from-append t x.world.state cs ds) ∙ along-append f before front back in
-          subst (λ (a : List Act). Stopped (saved_by x) a u v e) (sym parts) (stopped_more (saved_by x) (acts_of x before cs) rest u v e (stops before after)),
+          subst (λ (a : List Act). Stopped (kept_in x.keep) a u v e) (sym parts) (stopped_more (kept_in x.keep) (acts_of x before cs) rest u v e (stops before after)),
       works,
     )
 
@@ -279,24 +280,24 @@ two_each (x ∷ records) = omega (arith, two_each records)
 -- ---- one command
 
 one_act : (x : Records) (before : List Done) (c : Command)
-    → acts_of x before (c ∷ []) ≡ step_acts (saved_by x) x.show x.world.network before (done_by x.world.network x.world.state c)
+    → acts_of x before (c ∷ []) ≡ step_acts (kept_in x.keep) x.show x.world.network before (done_by x.world.network x.world.state c)
 unfolding run_from
-one_act x before c = append-nil (step_acts (saved_by x) x.show x.world.network before (done_by x.world.network x.world.state c))
+one_act x before c = append-nil (step_acts (kept_in x.keep) x.show x.world.network before (done_by x.world.network x.world.state c))
 
-pub ran_one : (x y : Records) (c : Command) (u v : World) → y.world.network ≡ x.world.network → y.show ≡ x.show → y.save ≡ x.save
+pub ran_one : (x y : Records) (c : Command) (u v : World) → y.world.network ≡ x.world.network → y.show ≡ x.show → y.keep ≡ x.keep
     → y.world.state ≡ (next x.world.network x.world.state c).state
     → y.tally.counts ≡ count_all x.tally.counts (verdicts_in (next x.world.network x.world.state c).answer)
     → total y.tally.counts ≤ total x.tally.counts + 66
     → y.tally.alarm ≡ x.tally.alarm || shows_alarm x.show x.world.network (done_by x.world.network x.world.state c)
     → ((before : List Done) → IsAfter x before
     → ArePoliced x.world.network x.show.police y.police (offers_of (before ++ done_by x.world.network x.world.state c ∷ [])) y.world.state.moment)
-    → ((before : List Done) → IsAfter x before → Does (step_acts (saved_by x) x.show x.world.network before (done_by x.world.network x.world.state c)) u v)
-    → Works (saved_by x) u v → Fits c → Ran x y (c ∷ []) u v
+    → ((before : List Done) → IsAfter x before → Does (step_acts (kept_in x.keep) x.show x.world.network before (done_by x.world.network x.world.state c)) u v)
+    → Works (kept_in x.keep) u v → Fits c → Ran x y (c ∷ []) u v
 unfolding state_after run_from all_verdicts done_by
-ran_one x y c u v network show save state counts few alarm police done works fits = record {
+ran_one x y c u v network show kept state counts few alarm police done works fits = record {
   network = network;
   show = show;
-  save = save;
+  keep = kept;
   state = state;
   steps = ap (λ (s : State). s.steps) state ∙ next_counts x.world.network x.world.state c;
   counts = counts ∙ ap (count_all x.tally.counts) (sym (append-nil (verdicts_in (next x.world.network x.world.state c).answer)));
@@ -313,10 +314,10 @@ ran_one x y c u v network show save state counts few alarm police done works fit
 
 pub stops_one : (x : Records) (c : Command) (e : PortError) (u v : World)
     → ((before : List Done) → IsAfter x before
-    → Stopped (saved_by x) (step_acts (saved_by x) x.show x.world.network before (done_by x.world.network x.world.state c)) u v e)
-    → Works (saved_by x) u v → StopsIn x (c ∷ []) e u v
+    → Stopped (kept_in x.keep) (step_acts (kept_in x.keep) x.show x.world.network before (done_by x.world.network x.world.state c)) u v e)
+    → Works (kept_in x.keep) u v → StopsIn x (c ∷ []) e u v
 stops_one x c e u v stops works =
-    (λ before after. subst (λ (acts : List Act). Stopped (saved_by x) acts u v e) (sym (one_act x before c)) (stops before after), works)
+    (λ before after. subst (λ (acts : List Act). Stopped (kept_in x.keep) acts u v e) (sym (one_act x before c)) (stops before after), works)
 
 -- ---- a record: two commands, taken behind others
 
@@ -363,10 +364,10 @@ module _ (x y : Records) (xs : List Captured) (u v : World) (c : Captured) (ran 
   takes_second m z w k (Err e) first ok err = stopped_second m e w k first err
 
 -- a file that isn't saved stays
-pub spared_stays : (save : Option (List ℕ)) (name : List ℕ) (old new : Option Files) → OthersKeep save old new → ¬ Contains (option_to_list save) name → SameFile name old new
-spared_stays save name None new others absent = tt
-spared_stays save name (Some f) None others absent = absurd others
-spared_stays save name (Some f) (Some g) others absent = others name absent
+pub spared_stays : (kept : List Kept) (name : List ℕ) (old new : Option Files) → OthersKeep kept old new → ¬ Contains (names kept) name → SameFile name old new
+spared_stays kept name None new others absent = tt
+spared_stays kept name (Some f) None others absent = absurd others
+spared_stays kept name (Some f) (Some g) others absent = others name absent
 
 -- each record takes the room of one
 pub room_left : (a b m n : ℕ) → b ≤ a + 2 → n ≤ m + 132 → min ((1073741823 - a) / 2) ((2 ^ 63 - m) / 256) ≤ min ((1073741823 - b) / 2) ((2 ^ 63 - n) / 256) + 1

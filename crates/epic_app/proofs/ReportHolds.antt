@@ -30,6 +30,8 @@ use Rattle.epic_model.specs.State.{start}
 use Rattle.epic_world.specs.Run.{run, run_from}
 use Rattle.epic_model.specs.World.{Fits, most_steps}
 use Rattle.epic_world.specs.Sound.{RunsHold}
+use Rattle.epic_app.specs.Keeping.{kept_by}
+use Rattle.epic_app.specs.Kept.{Kept}
 use Rattle.epic_app.specs.Acts.{Act, World, Does, printed, prints}
 use Rattle.epic_app.specs.Captures.{RecordsFit, records_commands, run_commands}
 use Rattle.epic_app.specs.Claims.{GenHolds, HopHolds, HoldsRecords, HoldsUnder, RunHolds}
@@ -42,11 +44,11 @@ use Rattle.epic_app.specs.HopReport.{answers, hop_report, is_forged}
 use Rattle.epic_app.specs.Limits.{file_limit, script_limit, topology_limit}
 use Rattle.epic_app.specs.Outcome.{ErrorSink, EndsBy, EndsUnder}
 use Rattle.epic_app.specs.Readings.{Reading, Whole, Failed, Unread, Holds, AreRead, IsRead}
-use Rattle.epic_words.specs.Request.{Request, Hop, Run, Gen, RunRequest, reads_of}
+use Rattle.epic_words.specs.Request.{Request, Hop, Run, Gen, RunRequest, reads_of, shares_files}
 use Rattle.epic_app.specs.RunReport.{has_alarm, run_alarms}
 use Rattle.epic_app.proofs.ActFiles.{printed-prints}
 use Rattle.epic_app.proofs.ScriptCommands.{few_commands}
-use Rattle.epic_app.proofs.RunActs.{printed-run, saves_whole}
+use Rattle.epic_app.proofs.RunActs.{ledger_whole, printed-run, saved_whole, verdicts_whole}
 use Rattle.epic_app.proofs.AllOf.{all_map}
 use Rattle.epic_app.proofs.RanLaws.{two_each}
 use Rattle.epic_app.proofs.AnswersHold.{answers_hold}
@@ -179,57 +181,57 @@ fits_so (command.Reveal holder) is = tt
 fits_so (command.Roll a) is = tt
 
 -- the records of a capture decided, if one is named
-record ByCapture (capture save : Option (List ℕ)) (show : Showing) (t : Network) (commands : List Command) (p : Progress) (contents : Option Files) : Type 0 where
+record ByCapture (capture : Option (List ℕ)) (kept : List Kept) (show : Showing) (t : Network) (commands : List Command) (p : Progress) (contents : Option Files) : Type 0 where
   records : List Captured
   are : HoldsRecords capture contents records
-  leads : p ≡ run_done save show t commands records
+  leads : p ≡ run_done kept show t commands records
   fit : All Fits (records_commands records)
   few : length records ≤ 262144
 
-capture_decides : (capture save : Option (List ℕ)) (show : Showing) (t : Network) (commands : List Command) (rest : List Reading) (old new : World) (status : ℕ)
-    → status < 2 → IsEnd (run_by capture rest save show t commands) status → AreRead old new (option_to_list capture) rest → AllByRecursion RecordsFit rest
-    → ByCapture capture save show t commands (run_by capture rest save show t commands) old.contents
+capture_decides : (capture : Option (List ℕ)) (kept : List Kept) (show : Showing) (t : Network) (commands : List Command) (rest : List Reading) (old new : World) (status : ℕ)
+    → status < 2 → IsEnd (run_by capture rest kept show t commands) status → AreRead old new (option_to_list capture) rest → AllByRecursion RecordsFit rest
+    → ByCapture capture kept show t commands (run_by capture rest kept show t commands) old.contents
 unfolding run_by on_capture by_records run_cut records_commands
-capture_decides None save show t commands [] old new status below end read fits =
+capture_decides None kept show t commands [] old new status below end read fits =
     record { records = []; are = refl; leads = refl; fit = All-nil Fits; few = omega arith }
-capture_decides None save show t commands (reading ∷ rest) old new status below end read fits = absurd read
-capture_decides (Some name) save show t commands [] old new status below end read fits = absurd read
-capture_decides (Some name) save show t commands (Failed front ∷ []) old new status below end read fits =
-    absurd (no_end (steps_acts save show t (run t (run_commands commands (records_in front).items))) 6 (read_line name) status (omega arith) below end)
-capture_decides (Some name) save show t commands (Unread ∷ []) old new status below (line, is) read fits = absurd (cc)
-capture_decides (Some name) save show t commands (Whole bytes ∷ []) old new status below end (holds, none) (fits, no_more) =
+capture_decides None kept show t commands (reading ∷ rest) old new status below end read fits = absurd read
+capture_decides (Some name) kept show t commands [] old new status below end read fits = absurd read
+capture_decides (Some name) kept show t commands (Failed front ∷ []) old new status below end read fits =
+    absurd (no_end (steps_acts kept show t (run t (run_commands commands (records_in front).items))) 6 (read_line name) status (omega arith) below end)
+capture_decides (Some name) kept show t commands (Unread ∷ []) old new status below (line, is) read fits = absurd (cc)
+capture_decides (Some name) kept show t commands (Whole bytes ∷ []) old new status below end (holds, none) (fits, no_more) =
     by (records_in bytes).damage refl end
   where
-    by : (damage : Option Damage) → (records_in bytes).damage ≡ damage → IsEnd (by_records save show t commands (records_in bytes).items damage) status
-        → ByCapture (Some name) save show t commands (by_records save show t commands (records_in bytes).items (records_in bytes).damage) old.contents
+    by : (damage : Option Damage) → (records_in bytes).damage ≡ damage → IsEnd (by_records kept show t commands (records_in bytes).items damage) status
+        → ByCapture (Some name) kept show t commands (by_records kept show t commands (records_in bytes).items (records_in bytes).damage) old.contents
     by (Some e) is end =
-        absurd (no_end (steps_acts save show t (run t (run_commands commands (records_in bytes).items))) 5 (capture_line e) status (omega arith) below end)
+        absurd (no_end (steps_acts kept show t (run t (run_commands commands (records_in bytes).items))) 5 (capture_line e) status (omega arith) below end)
     by None is end = record {
       records = (records_in bytes).items;
       are = (bytes, holds, ap (λ (damage : Option Damage). record { items = (records_in bytes).items; damage = damage }) is);
-      leads = ap (by_records save show t commands (records_in bytes).items) is;
+      leads = ap (by_records kept show t commands (records_in bytes).items) is;
       fit = fits;
       few = few_records bytes;
     }
-capture_decides (Some name) save show t commands (reading ∷ second ∷ rest) old new status below end (read, many) fits = absurd many
+capture_decides (Some name) kept show t commands (reading ∷ second ∷ rest) old new status below end (read, many) fits = absurd many
 
 module _ (runs_hold : RunsHold) (spelled : CommandsAreSpelled) where
   run_claims : (r : RunRequest) (old new : World) (first second : Reading) (rest : List Reading) (status : ℕ) → IsRead old new r.topology first → IsRead old new r.script second
-      → AreRead old new (option_to_list r.capture) rest → AllByRecursion RecordsFit rest → status < 2
+      → AreRead old new (option_to_list r.capture) rest → AllByRecursion RecordsFit rest → shares_files (Run r) ≡ false → status < 2
       → IsEnd (doing (Run r) (first ∷ second ∷ rest)) status → Does (doing (Run r) (first ∷ second ∷ rest)).acts old new → RunHolds r old new status
   unfolding doing run_done run run_commands
-  run_claims r old new first second rest status read read_too reads fits below end done =
+  run_claims r old new first second rest status read read_too reads fits unshared below end done =
       let next : Network → Progress = λ t. on_commands r.script script_limit run_rule second (run_with r rest t) in
       let top = topology_decides r.topology first next status below end in
       let t = top.network in
       let end_next : IsEnd (next t) status = let P : Progress → Type 0 = λ p. IsEnd p status in subst P top.leads end in
       let by = commands_decide r.script script_limit run_rule second (run_with r rest t) status below end_next in
       let end_last : IsEnd (run_with r rest t by.commands) status = let P : Progress → Type 0 = λ p. IsEnd p status in subst P by.leads end_next in
-      let of = capture_decides r.capture r.save (showing r (length by.commands)) t by.commands rest old new status below end_last reads fits in
+      let of = capture_decides r.capture (kept_by r) (showing r (length by.commands)) t by.commands rest old new status below end_last reads fits in
       let leads = top.leads ∙ (by.leads ∙ of.leads) in
       let commands = run_commands by.commands of.records in
       let steps = run_from t start commands in
-      let acts = run_acts r.save (showing r (length by.commands)) t steps in
+      let acts = run_acts (kept_by r) (showing r (length by.commands)) t steps in
       let did : Does acts old new = let P : List Act → Type 0 = λ a. Does a old new in subst P (ap (λ (p : Progress). p.acts) leads) done in
       let lawful : IsTopology t = at_ok IsTopology (topology top.bytes) t top.is (read_lawful top.bytes) in
       let fit = All-append Fits by.commands (records_commands of.records) (all_map IsSpelled Fits by.commands fits_so (spelled by.bytes by.commands by.are)) of.fit in
@@ -249,10 +251,12 @@ module _ (runs_hold : RunsHold) (spelled : CommandsAreSpelled) where
         are_records = of.are;
         steps = holds.0;
         last = holds.1;
-        report = (let P = Appends old.written new.written in subst P (printed-run r.save (showing r (length by.commands)) t steps) did.output);
+        report = (let P = Appends old.written new.written in subst P (printed-run (kept_by r) (showing r (length by.commands)) t steps) did.output);
         alarm = status_one (run_alarms (showing r (length by.commands)) t steps) (run_alarms (showing r (length by.commands)) t steps) status refl
             (sym (ap (λ (p : Progress). ended_status p) leads) ∙ ended_at (doing (Run r) (first ∷ second ∷ rest)) status end);
-        saved = saves_whole r.save (showing r (length by.commands)) t steps old.contents new.contents did.files;
+        saved = saved_whole r (showing r (length by.commands)) t steps old.contents new.contents unshared did.files;
+        ledger = ledger_whole r (showing r (length by.commands)) t steps old.contents new.contents unshared did.files;
+        verdicts = verdicts_whole r (showing r (length by.commands)) t steps old.contents new.contents unshared did.files;
       }
 
 -- ---- generated runs
@@ -297,17 +301,17 @@ gen_holds runs_hold seed packets old new e f status (reading ∷ more) few read 
 
 module _ (runs_hold : RunsHold) (spelled : CommandsAreSpelled) where
   run_holds : (r : RunRequest) (old new : World) (e f : ErrorSink) (status : ℕ) (readings : List Reading) → AreRead old new (reads_of (Run r)) readings
-      → EndsBy (doing (Run r) readings) old new e f status → (status < 2 → AllByRecursion RecordsFit (drop 2 readings)) → status < 2 → RunHolds r old new status
-  run_holds r old new e f status [] read by fits below = absurd read
-  run_holds r old new e f status (first ∷ []) (read, none) by fits below = absurd none
-  run_holds r old new e f status (first ∷ second ∷ rest) (read, (read_too, reads)) by fits below =
+      → EndsBy (doing (Run r) readings) old new e f status → (status < 2 → AllByRecursion RecordsFit (drop 2 readings)) → shares_files (Run r) ≡ false → status < 2 → RunHolds r old new status
+  run_holds r old new e f status [] read by fits unshared below = absurd read
+  run_holds r old new e f status (first ∷ []) (read, none) by fits unshared below = absurd none
+  run_holds r old new e f status (first ∷ second ∷ rest) (read, (read_too, reads)) by fits unshared below =
       let (end, done) = decided _ old new e f status by below in
-      run_claims runs_hold spelled r old new first second rest status read read_too reads (fits below) below end done
+      run_claims runs_hold spelled r old new first second rest status read read_too reads (fits below) unshared below end done
 
   pub holds_under : (words : List (List ℕ)) (request : Option Request) (old new : World) (e f : ErrorSink) (status : ℕ)
       → HasFew request → EndsUnder words request old new e f status → HoldsUnder request old new status
   holds_under words None old new e f status few ended = tt
   holds_under words (Some (Hop key name)) old new e f status few ended = λ below. hop_holds key name old new e f status ended.readings ended.are_read ended.ends below
-  holds_under words (Some (Run r)) old new e f status few ended = λ below. run_holds r old new e f status ended.readings ended.are_read ended.ends ended.fits below
+  holds_under words (Some (Run r)) old new e f status few ended = λ below. run_holds r old new e f status ended.readings ended.are_read ended.ends ended.fits few below
   holds_under words (Some (Gen seed packets)) old new e f status few ended =
       λ below. gen_holds runs_hold seed packets old new e f status ended.readings few ended.are_read ended.ends below

@@ -1,5 +1,5 @@
 -- A run, step by step.
-use Rattle.std.proofs.Common.{◌≡◌, ℕ, suc, ◌+◌, ◌<◌, ◌≤◌, Bool, true, false, ◌||◌, ltb, cond, List, [], ◌∷◌, ◌++◌, length, take, drop, get_or, Option, count_by, flat_map, refl, sym, ap, ◌∙◌, arith, append-nil, append_assoc, take_all, zero-add}
+use Rattle.std.proofs.Common.{◌≡◌, ℕ, suc, ◌+◌, ◌<◌, ◌≤◌, Bool, true, false, ◌||◌, ltb, cond, List, [], ◌∷◌, ◌++◌, length, take, drop, get_or, count_by, flat_map, refl, sym, ap, ◌∙◌, arith, append-nil, append_assoc, take_all, zero-add}
 use Rattle.std.specs.List.{list_any}
 use Rattle.std.proofs.lemmas.Bool.Decides.{nat_tests}
 use Rattle.std.proofs.lemmas.List.{take_more, drop_more, drop_all, take-append-drop}
@@ -15,13 +15,13 @@ use Rattle.epic_text.proofs.CountLemmas.{counts_of-last}
 use Rattle.epic_model.specs.State.{State, start}
 use Rattle.epic_model.specs.Steps.{next}
 use Rattle.epic_world.specs.Run.{Done, done_by, run_from, state_after, run}
+use Rattle.epic_app.specs.Kept.{Kept, opening}
 use Rattle.epic_app.specs.Showing.{Showing}
 use Rattle.epic_app.specs.Acts.{Act}
 use Rattle.epic_app.specs.Along.{along}
 use Rattle.epic_app.specs.Doing.{step_acts, steps_acts}
 use Rattle.epic_app.specs.Noting.{shows_alarm}
 use Rattle.epic_app.specs.RunReport.{all_verdicts, verdicts_in, is_alarm}
-use Rattle.epic_app.specs.Saved.{opening}
 use Rattle.epic_app.specs.StepLines.{count_all}
 use Rattle.epic_app.proofs.AlongLaws.{along-append, along-last}
 
@@ -64,12 +64,12 @@ or_assoc false y z = refl
 pub any_last : {A : Type 0} (f : A → Bool) (xs : List A) (y : A) → list_any f (xs ++ y ∷ []) ≡ list_any f xs || f y
 any_last f xs y = list_any-append f xs (y ∷ []) ∙ ap (λ b. list_any f xs || b) (or_none (f y))
 
-pub acts_last : (save : Option (List ℕ)) (show : Showing) (t : Network) (before : List Done) (s : State) (xs : List Command) (c : Command)
-    → along (step_acts save show t) before (run_from t s (xs ++ c ∷ []))
-    ≡ along (step_acts save show t) before (run_from t s xs) ++ step_acts save show t (before ++ run_from t s xs) (done_by t (state_after t s xs) c)
-acts_last save show t before s xs c =
-    ap (along (step_acts save show t) before) (run_last t s xs c)
-    ∙ along-last (step_acts save show t) before (run_from t s xs) (done_by t (state_after t s xs) c)
+pub acts_last : (kept : List Kept) (show : Showing) (t : Network) (before : List Done) (s : State) (xs : List Command) (c : Command)
+    → along (step_acts kept show t) before (run_from t s (xs ++ c ∷ []))
+    ≡ along (step_acts kept show t) before (run_from t s xs) ++ step_acts kept show t (before ++ run_from t s xs) (done_by t (state_after t s xs) c)
+acts_last kept show t before s xs c =
+    ap (along (step_acts kept show t) before) (run_last t s xs c)
+    ∙ along-last (step_acts kept show t) before (run_from t s xs) (done_by t (state_after t s xs) c)
 
 pub verdicts_last : (t : Network) (s : State) (xs : List Command) (c : Command)
     → all_verdicts (run_from t s (xs ++ c ∷ [])) ≡ all_verdicts (run_from t s xs) ++ verdicts_in (next t (state_after t s xs) c).answer
@@ -88,15 +88,15 @@ alarms_last show t s xs c =
     ∙ any_last (shows_alarm show t) (run_from t s xs) (done_by t (state_after t s xs) c)
 
 -- all acts, in those of a front of the commands and the rest
-pub acts_front : (save : Option (List ℕ)) (show : Showing) (t : Network) (before : List Done) (s : State) (xs : List Command) (c : Command) (ys : List Command)
-    → along (step_acts save show t) before (run_from t s (xs ++ c ∷ ys))
-    ≡ along (step_acts save show t) before (run_from t s xs)
-    ++ (step_acts save show t (before ++ run_from t s xs) (done_by t (state_after t s xs) c)
-    ++ along (step_acts save show t) ((before ++ run_from t s xs) ++ done_by t (state_after t s xs) c ∷ []) (run_from t (next t (state_after t s xs) c).state ys))
+pub acts_front : (kept : List Kept) (show : Showing) (t : Network) (before : List Done) (s : State) (xs : List Command) (c : Command) (ys : List Command)
+    → along (step_acts kept show t) before (run_from t s (xs ++ c ∷ ys))
+    ≡ along (step_acts kept show t) before (run_from t s xs)
+    ++ (step_acts kept show t (before ++ run_from t s xs) (done_by t (state_after t s xs) c)
+    ++ along (step_acts kept show t) ((before ++ run_from t s xs) ++ done_by t (state_after t s xs) c ∷ []) (run_from t (next t (state_after t s xs) c).state ys))
 unfolding run_from
-acts_front save show t before s xs c ys =
-    ap (along (step_acts save show t) before) (run_from-append t s xs (c ∷ ys))
-    ∙ along-append (step_acts save show t) before (run_from t s xs) (done_by t (state_after t s xs) c ∷ run_from t (next t (state_after t s xs) c).state ys)
+acts_front kept show t before s xs c ys =
+    ap (along (step_acts kept show t) before) (run_from-append t s xs (c ∷ ys))
+    ∙ along-append (step_acts kept show t) before (run_from t s xs) (done_by t (state_after t s xs) c ∷ run_from t (next t (state_after t s xs) c).state ys)
 
 -- ---- counts
 
@@ -133,11 +133,11 @@ unfolding count_all
 count_end c vs i all past counts = sym (ap (count_all c) (drop_all i vs past)) ∙ counts
 
 -- the acts of the opening, and of the commands up to a place
-abbrev pub acts_until : Option (List ℕ) → Showing → Network → List Command → ℕ → List Act
-acts_until save show t cs i = opening save ++ along (step_acts save show t) [] (run_from t start (take i cs))
+abbrev pub acts_until : List Kept → Showing → Network → List Command → ℕ → List Act
+acts_until kept show t cs i = opening kept ++ along (step_acts kept show t) [] (run_from t start (take i cs))
 
 -- where the commands up to a place were done, one more command is
-module _ (save : Option (List ℕ)) (show : Showing) (t : Network) (cs : List Command) (i : ℕ) (d : Command) (within : i < length cs) where
+module _ (kept : List Kept) (show : Showing) (t : Network) (cs : List Command) (i : ℕ) (d : Command) (within : i < length cs) where
   next_front : take (i + 1) cs ≡ take i cs ++ get_or cs i d ∷ []
   next_front = take_more cs i d within
 
@@ -156,31 +156,31 @@ module _ (save : Option (List ℕ)) (show : Showing) (t : Network) (cs : List Co
   next_alarm = ap (λ xs. list_any (shows_alarm show t) (run_from t start xs)) next_front ∙ alarms_last show t start (take i cs) (get_or cs i d)
 
   -- all acts begin with those that were done and those of this command
-  pub run_front : (more : List Act) × (steps_acts save show t (run t cs) ≡ acts_until save show t cs i
-      ++ (step_acts save show t (run_from t start (take i cs)) (done_by t (state_after t start (take i cs)) (get_or cs i d)) ++ more))
+  pub run_front : (more : List Act) × (steps_acts kept show t (run t cs) ≡ acts_until kept show t cs i
+      ++ (step_acts kept show t (run_from t start (take i cs)) (done_by t (state_after t start (take i cs)) (get_or cs i d)) ++ more))
   unfolding steps_acts run
   run_front =
       let c = get_or cs i d in
       let s = state_after t start (take i cs) in
-      let f = step_acts save show t in
+      let f = step_acts kept show t in
       let steps = run_from t start (take i cs) in
       let front = along f [] steps in
       let step = f steps (done_by t s c) in
       let rest = along f (steps ++ done_by t s c ∷ []) (run_from t (next t s c).state (drop (i + 1) cs)) in
       let whole : cs ≡ take i cs ++ c ∷ drop (i + 1) cs = sym (take-append-drop i cs) ∙ ap (λ ys. take i cs ++ ys) (drop_more cs i d within) in
       let all : along f [] (run_from t start cs) ≡ front ++ (step ++ rest) =
-      ap (λ xs. along f [] (run_from t start xs)) whole ∙ acts_front save show t [] start (take i cs) c (drop (i + 1) cs) in (
+      ap (λ xs. along f [] (run_from t start xs)) whole ∙ acts_front kept show t [] start (take i cs) c (drop (i + 1) cs) in (
         rest,
-        ap (λ acts. opening save ++ acts) all ∙ sym (append_assoc (opening save) front (step ++ rest)),
+        ap (λ acts. opening kept ++ acts) all ∙ sym (append_assoc (opening kept) front (step ++ rest)),
       )
 
 -- all acts begin with the opening
-pub run_opening : (save : Option (List ℕ)) (show : Showing) (t : Network) (cs : List Command) → (more : List Act) × (steps_acts save show t (run t cs) ≡ opening save ++ more)
+pub run_opening : (kept : List Kept) (show : Showing) (t : Network) (cs : List Command) → (more : List Act) × (steps_acts kept show t (run t cs) ≡ opening kept ++ more)
 unfolding steps_acts
-run_opening save show t cs = (_, refl)
+run_opening kept show t cs = (_, refl)
 
 -- after all commands they are all acts
-pub run_whole : (save : Option (List ℕ)) (show : Showing) (t : Network) (cs : List Command) (i : ℕ) → length cs ≤ i
-    → steps_acts save show t (run t cs) ≡ acts_until save show t cs i
+pub run_whole : (kept : List Kept) (show : Showing) (t : Network) (cs : List Command) (i : ℕ) → length cs ≤ i
+    → steps_acts kept show t (run t cs) ≡ acts_until kept show t cs i
 unfolding steps_acts run
-run_whole save show t cs i past = ap (λ xs. opening save ++ along (step_acts save show t) [] (run_from t start xs)) (sym (take_all i cs past))
+run_whole kept show t cs i past = ap (λ xs. opening kept ++ along (step_acts kept show t) [] (run_from t start xs)) (sym (take_all i cs past))

@@ -1,24 +1,22 @@
 -- A step whose lines are written, and then what it emitted is saved.
-use Rattle.std.proofs.Common.{◌≡◌, ℕ, ◌≤◌, List, [], ◌++◌, length, map, drop, flat_map, Option, Some, None, Result, Err, refl, subst, ◌∙◌, arith}
-use Rattle.epic_capture.specs.Saving.{saved_record}
+use Rattle.std.proofs.Common.{◌≡◌, ℕ, ◌≤◌, List, [], ◌++◌, Option, Some, None, Result, Err, refl, subst, arith}
 use Rattle.epic_num.specs.declared.command.Command.{Command}
 use Rattle.epic_ports.specs.Files.{Files, KeepsFiles}
 use Rattle.epic_ports.specs.Written.{Appends}
 use Rattle.epic_ports.specs.declared.error.PortError.{PortError}
 use Rattle.epic_ports.proofs.Appended.{Appends-none}
 use Rattle.epic_topo.specs.Network.{Network}
-use Rattle.epic_ledger.specs.History.{History}
 use Rattle.epic_model.specs.State.{State}
 use Rattle.epic_model.specs.Steps.{next}
 use Rattle.epic_world.specs.Run.{Done, done_by}
+use Rattle.epic_app.specs.Kept.{Kept, adding}
 use Rattle.epic_app.specs.Showing.{Showing}
-use Rattle.epic_app.specs.Acts.{Act, Does, StopsBefore, World, appends, prints, world}
+use Rattle.epic_app.specs.Acts.{Act, Does, StopsBefore, World, prints, world}
 use Rattle.epic_app.specs.Captures.{shown}
 use Rattle.epic_app.specs.Doing.{step_acts}
 use Rattle.epic_app.specs.Noting.{notes_after, offers_of}
 use Rattle.epic_app.specs.Performing.{Performs, Stays, Stopped}
 use Rattle.epic_app.specs.RunReport.{answered_text, step_text}
-use Rattle.epic_app.specs.Saved.{as_captured, captured_in, saved_in}
 use Rattle.epic_app.specs.Writing.{Stops}
 use Rattle.epic_app.proofs.ActFiles.{does_nothing, does_text}
 use Rattle.epic_app.proofs.Acting.{performs_after, prints_performed, stays_kept, stopped_first, stopped_more}
@@ -28,22 +26,22 @@ keeps_all None = tt
 keeps_all (Some files) = refl
 
 -- nothing was done
-pub stays_same : (save : Option (List ℕ)) (w : World) → Stays save w w
-stays_same save w = stays_kept save w w (keeps_all w.contents) (omega arith) refl refl
+pub stays_same : (kept : List Kept) (w : World) → Stays kept w w
+stays_same kept w = stays_kept kept w w (keeps_all w.contents) (omega arith) refl refl
 
 pub nothing_done : (w : World) → Does [] w w
 nothing_done w = does_nothing w w (keeps_all w.contents) (Appends-none w.written)
 
 -- memory was wanting before anything was done
 pub stopped_same : (acts : List Act) (w : World) → StopsBefore acts w w
-stopped_same acts w = stopped_first None acts w w (keeps_all w.contents) (Appends-none w.written)
+stopped_same acts w = stopped_first [] acts w w (keeps_all w.contents) (Appends-none w.written)
 
 -- only the output changed
-pub stays_written : (save : Option (List ℕ)) (files : Option Files) (reads writes : List ℕ → ℕ)
+pub stays_written : (kept : List Kept) (files : Option Files) (reads writes : List ℕ → ℕ)
     (old new : Option (List ℕ)) (before now : ℕ) → before ≤ now
-    → Stays save (world files reads writes old before) (world files reads writes new now)
-stays_written save files reads writes old new before now later =
-    stays_kept save (world files reads writes old before) (world files reads writes new now)
+    → Stays kept (world files reads writes old before) (world files reads writes new now)
+stays_written kept files reads writes old new before now later =
+    stays_kept kept (world files reads writes old before) (world files reads writes new now)
     (keeps_all files) later refl refl
 
 module _ (t : Network) (s : State) (c : Command) where
@@ -55,18 +53,7 @@ module _ (t : Network) (s : State) (c : Command) where
   unfolding done_by
   lines_are show before text is = is
 
-  -- the records of the emissions since are those of the step
-  pub records_are : (records : List ℕ) (before moment : ℕ) (h : History)
-      → records ≡ flat_map saved_record (map (as_captured moment) (drop before h.emissions))
-      → before ≡ length s.history.emissions → moment ≡ (next t s c).state.moment
-      → h ≡ (next t s c).state.history
-      → records ≡ saved_in (done_by t s c)
-  unfolding saved_in captured_in done_by
-  records_are records before moment h is before_is moment_is h_is =
-      is ∙ (λ k. flat_map saved_record
-      (map (as_captured (moment_is k)) (drop (before_is k) (h_is k).emissions)))
-
-module _ (save : Option (List ℕ)) (show : Showing) (t : Network) (earlier : List Done) (s : State) (c : Command)
+module _ (kept : List Kept) (show : Showing) (t : Network) (earlier : List Done) (s : State) (c : Command)
     (files : Option Files) (reads writes : List ℕ → ℕ)
     (old new : Option (List ℕ)) (before now : ℕ) (text : List ℕ)
     (is : text ≡ step_text show t earlier (done_by t s c)) where
@@ -79,24 +66,24 @@ module _ (save : Option (List ℕ)) (show : Showing) (t : Network) (earlier : Li
 
   -- less of the lines was written
   pub lines_stopped : (e : PortError) → Stops text old new before now e
-      → Stopped save (step_acts save show t earlier (done_by t s c)) u v e
+      → Stopped kept (step_acts kept show t earlier (done_by t s c)) u v e
   unfolding step_acts
   lines_stopped e stops =
       let lines = step_text show t earlier (done_by t s c) in
-      stopped_more save (prints lines) (appends save (saved_in (done_by t s c))) u v e
-      (prints_performed {X = ℕ} save lines u v (Err e) (keeps_all files)
+      stopped_more kept (prints lines) (adding kept t (done_by t s c)) u v e
+      (prints_performed {X = ℕ} kept lines u v (Err e) (keeps_all files)
       (subst (λ (x : List ℕ). Stops x old new before now e) is stops))
 
-  -- the lines were written, and then the records were saved, or less of them
-  pub step_performed : {X : Type 0} (records : List ℕ) (w : World) (r : Result X PortError)
-      → records ≡ saved_in (done_by t s c) → Appends old new text → before ≤ now
-      → Performs save (appends save records) v w r
-      → Performs save (step_acts save show t earlier (done_by t s c)) u w r
+  -- the lines were written, and then the files grew, or less of it
+  pub step_performed : {X : Type 0} (w : World) (r : Result X PortError)
+      → Appends old new text → before ≤ now
+      → Performs kept (adding kept t (done_by t s c)) v w r
+      → Performs kept (step_acts kept show t earlier (done_by t s c)) u w r
   unfolding step_acts
-  step_performed records w r same written later saved =
-      let acts : prints text ++ appends save records ≡ step_acts save show t earlier (done_by t s c)
-      = λ k. prints (is k) ++ appends save (same k) in
-      subst (λ (a : List Act). Performs save a u w r) acts
-      (performs_after save (prints text) (appends save records) u v w r
+  step_performed w r written later added =
+      let acts : prints text ++ adding kept t (done_by t s c) ≡ step_acts kept show t earlier (done_by t s c)
+      = λ k. prints (is k) ++ adding kept t (done_by t s c) in
+      subst (λ (a : List Act). Performs kept a u w r) acts
+      (performs_after kept (prints text) (adding kept t (done_by t s c)) u v w r
       (does_text text u v (keeps_all files) written)
-      (stays_written save files reads writes old new before now later) saved)
+      (stays_written kept files reads writes old new before now later) added)

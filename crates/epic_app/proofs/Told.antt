@@ -17,6 +17,7 @@ use Rattle.epic_num.specs.declared.hop.Level.{Level}
 use Rattle.epic_num.specs.declared.key_name.Holder.{Holder}
 use Rattle.epic_num.specs.declared.name.AsId.{AsId}
 use Rattle.epic_num.specs.declared.name.HostId.{HostId}
+use Rattle.epic_num.specs.declared.passed.Passed.{Passed}
 use Rattle.epic_num.specs.declared.passed.Place.{Place}
 use Rattle.epic_num.specs.declared.passed.Place.TheVariants.{Router, Host}
 use Rattle.epic_num.specs.declared.path_error.PathError.{PathError}
@@ -41,7 +42,7 @@ use Rattle.epic_beacon.specs.Told.{beacons_in}
 use Rattle.epic_path.specs.Joins.{joined}
 use Rattle.epic_path.specs.Routes.{all_lawful}
 use Rattle.epic_ends.specs.Sending.{sent_packet}
-use Rattle.epic_ledger.specs.History.{Emission, emission_at, emitted}
+use Rattle.epic_ledger.specs.History.{Emission, History, emission_at, emitted}
 use Rattle.epic_ledger.specs.Facts.{as_issue, facts_of, issues_in, reveals_in}
 use Rattle.epic_ledger.specs.declared.event.Event.TheVariants as event
 use Rattle.epic_audit.specs.Reveals.{is_revealed}
@@ -55,9 +56,10 @@ use Rattle.epic_model.specs.World.{Fits, IsWorld}
 use Rattle.epic_model.proofs.Stepping.{later}
 use Rattle.epic_model.proofs.InvIssued.{inv_issues}
 use Rattle.epic_model.proofs.InvKept.{there_fits}
-use Rattle.epic_text.specs.Report.{IsKnownHop, IsToldAnswer, emission_bytes, bytes_in}
+use Rattle.epic_text.specs.Report.{IsKnownHop, IsToldAnswer, IsToldCarry, emission_bytes, bytes_in}
 use Rattle.epic_app.specs.RunReport.{verdicts_in}
-use Rattle.epic_app.specs.Noting.{passes_after, passes_told}
+use Rattle.epic_app.specs.Noting.{coming, passes_after, passes_told}
+use Rattle.epic_app.specs.Telling.{AreTold}
 use Rattle.epic_app.specs.Policed.{IsNotablePass}
 use Rattle.epic_app.proofs.ToldPasses.{AreNotable, all_notable, verdicts_of, shown_told, shown_notable, passed_told, passed_stays, bytes_stay, all_carried_told, few_carried}
 
@@ -394,3 +396,33 @@ answers_are_notable t s c topology fits w =
     let n = next t s c in
     let emissions = emission_bytes n.state.history.emissions in
     all_notable t emissions (bytes_in emissions c) (passes_told n.answer) (all_told t s c topology fits w).1.1
+
+-- the verdicts of passes can be told
+are_told : (t : Network) (emissions : ℕ → List ℕ) (came : List ℕ) (passes : List Passed) → IsToldCarry t emissions came passes → AreNotable t emissions came passes
+    → AreTold t (coming emissions came passes)
+are_told t emissions came [] told notable = tt
+are_told t emissions came (passed ∷ more) (first, rest) (noted, others) =
+    ((first, noted), are_told t emissions (emissions passed.emission) more rest others)
+
+told_in : (t : Network) (h : History) (came : List ℕ) (a : Answer) → IsToldAnswer t h came a → AreNotable t (emission_bytes h.emissions) came (passes_told a)
+    → AreTold t (coming (emission_bytes h.emissions) came (passes_told a))
+told_in t h came (answer.Passed passed) told (noted, none) = ((told, noted), tt)
+told_in t h came (answer.Carried passes) told notable = are_told t (emission_bytes h.emissions) came passes told notable
+told_in t h came answer.Moment told notable = tt
+told_in t h came (answer.Issued number) told notable = tt
+told_in t h came answer.Fetched told notable = tt
+told_in t h came answer.Known told notable = tt
+told_in t h came (answer.Paths paths) told notable = tt
+told_in t h came (answer.Sent emission ts) told notable = tt
+told_in t h came answer.Revealed told notable = tt
+told_in t h came (answer.Rolled generation) told notable = tt
+told_in t h came (answer.Refused refusal) told notable = tt
+
+-- The verdicts of every answer's passes can be told.
+pub verdicts_can_be_told : (t : Network) (s : State) (c : Command) → IsTopology t → Fits c → IsWorld t s
+    → (let n = next t s c in AreTold t (passes_after c n.answer n.state))
+unfolding passes_after
+verdicts_can_be_told t s c topology fits w =
+    let n = next t s c in
+    let all = all_told t s c topology fits w in
+    told_in t n.state.history (bytes_in (emission_bytes n.state.history.emissions) c) n.answer all.0 all.1.1

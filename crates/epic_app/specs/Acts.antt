@@ -35,15 +35,13 @@ pub data Act : Type 0 where
 unfoldable pub prints : List ℕ → List Act
 prints text = map Print text
 
--- a file is made empty, if one is named
-unfoldable pub creates : Option (List ℕ) → List Act
-creates None = []
-creates (Some name) = Create name ∷ []
+-- a file is made empty
+unfoldable pub creates : List ℕ → List Act
+creates name = Create name ∷ []
 
--- a text is added at the end of a file, if one is named
-unfoldable pub appends : Option (List ℕ) → List ℕ → List Act
-appends None text = []
-appends (Some name) text = map (Append name) text
+-- a text is added at the end of a file
+unfoldable pub appends : List ℕ → List ℕ → List Act
+appends name text = map (Append name) text
 
 -- ---- acts that were done
 

@@ -7,6 +7,7 @@ use Rattle.epic_capture.specs.Saving.{saved}
 use Rattle.epic_feed.specs.Forms.{records_in}
 use Rattle.epic_ports.specs.Files.{Files}
 use Rattle.epic_ports.specs.Written.{Appends}
+use Rattle.epic_record.specs.LedgerText.{ledger_text}
 use Rattle.epic_topo.specs.Network.{Network}
 use Rattle.epic_topo.specs.Reading.{topology as topology_of}
 use Rattle.epic_gen.specs.Script.{generated}
@@ -25,6 +26,7 @@ use Rattle.epic_app.specs.Doing.{showing}
 use Rattle.epic_app.specs.Generating.{gen_text, generated_steps}
 use Rattle.epic_app.specs.HopFile.{hop_rule}
 use Rattle.epic_app.specs.HopReport.{AllHold, is_forged, report_text}
+use Rattle.epic_app.specs.Ledgers.{items_told, verdicts_told}
 use Rattle.epic_app.specs.Readings.{Holds}
 use Rattle.epic_words.specs.Request.{Request, Hop, Run, Gen, RunRequest, request_of}
 use Rattle.epic_app.specs.RunReport.{run_text, has_alarm, run_alarms}
@@ -41,11 +43,11 @@ pub record HopHolds (key name : List ℕ) (old new : World) (status : ℕ) : Typ
   pub report : Appends old.written new.written (report_text given)
   pub forged : (status ≡ 1) ↔ IsTrue (list_any is_forged given)
 
--- a file that is saved holds a capture of these records, if one is named, where contents are told before and after
-abbrev pub Saves : Option (List ℕ) → List Captured → Option Files → Option Files → Type 0
-Saves None records old new = ⊤
-Saves (Some name) records None new = ⊤
-Saves (Some name) records (Some old) new = Holds new name (saved records)
+-- a file holds these bytes, if one is named, where contents are told before and after
+abbrev pub Keeps : Option (List ℕ) → List ℕ → Option Files → Option Files → Type 0
+Keeps None bytes old new = ⊤
+Keeps (Some name) bytes None new = ⊤
+Keeps (Some name) bytes (Some old) new = Holds new name bytes
 
 -- a capture holds these records and no damage, if one is named; else there are none
 abbrev pub HoldsRecords : Option (List ℕ) → Option Files → List Captured → Type 0
@@ -55,7 +57,8 @@ HoldsRecords (Some name) files records =
 
 -- The files hold a topology, commands and records; the lines are those of the steps of the commands and of the records. Each step goes on from a state that holds: the
 -- verdicts of its passages are true, each over the ledger before its passage, and honest packets are carried. So does the end of the
--- run. Status 1 tells that a verdict says forged or collided. The saved file holds a capture of what was emitted.
+-- run. Status 1 tells that a verdict says forged or collided. The saved file holds a capture of what was emitted,
+-- the ledger file the lines of all that happened, and the verdict file the verdicts of what was accepted.
 pub record RunHolds (r : RunRequest) (old new : World) (status : ℕ) : Type 0 where
   pub text : List ℕ
   pub bytes : List ℕ
@@ -71,7 +74,9 @@ pub record RunHolds (r : RunRequest) (old new : World) (status : ℕ) : Type 0 w
   pub last : StateHolds network (state_after network start (run_commands commands records))
   pub report : Appends old.written new.written (run_text (showing r (length commands)) network (run network (run_commands commands records)))
   pub alarm : (status ≡ 1) ↔ IsTrue (run_alarms (showing r (length commands)) network (run network (run_commands commands records)))
-  pub saved : Saves r.save (captured_by (run network (run_commands commands records))) old.contents new.contents
+  pub saved : Keeps r.save (saved (captured_by (run network (run_commands commands records)))) old.contents new.contents
+  pub ledger : Keeps r.ledger (ledger_text (items_told (run network (run_commands commands records)))) old.contents new.contents
+  pub verdicts : Keeps r.verdicts (verdicts_told network (run network (run_commands commands records))) old.contents new.contents
 
 -- The two lines are those of the generated commands' steps over the generated topology, whose text `run` reads as it. Each step goes on
 -- from a state that holds, and so does the end of the run, as for `run`. Status 1 tells that a verdict says forged or collided.

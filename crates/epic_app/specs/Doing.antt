@@ -1,5 +1,5 @@
 -- What a command does, from what it read of its files. A new command adds a case to `doing`.
-use Rattle.std.specs.Prelude.{ℕ, Bool, if◌then◌else◌, nat_lt, List, [], ◌∷◌, ◌++◌, length, count_by, flat_map, Option, Some, None, Result, Ok, Err}
+use Rattle.std.specs.Prelude.{ℕ, Bool, if◌then◌else◌, nat_lt, List, [], ◌∷◌, ◌++◌, length, count_by, Option, Some, None, Result, Ok, Err}
 use Rattle.epic_num.specs.declared.command.Command.{Command}
 use Rattle.epic_capture.specs.Records.{Captured}
 use Rattle.epic_feed.specs.declared.damage.Damage.{Damage}
@@ -15,18 +15,19 @@ use Rattle.epic_text.specs.Script.{Fault, Rule, commands_of}
 use Rattle.epic_world.specs.Run.{Done, run}
 use Rattle.epic_app.specs.declared.hop_file.HopCommand.{HopCommand}
 use Rattle.epic_app.specs.Showing.{Showing}
-use Rattle.epic_app.specs.Acts.{Act, appends, prints}
+use Rattle.epic_app.specs.Acts.{Act, prints}
 use Rattle.epic_app.specs.Along.{along}
 use Rattle.epic_app.specs.Captures.{run_commands, shown}
 use Rattle.epic_app.specs.FaultLines.{capture_line, fault_line, long_topology_line, read_line, too_long_line, topology_line}
 use Rattle.epic_app.specs.Generating.{gen_text, generated_steps}
 use Rattle.epic_app.specs.HopFile.{hop_rule}
 use Rattle.epic_app.specs.HopReport.{answers, hop_report, is_forged}
+use Rattle.epic_app.specs.Keeping.{kept_by}
+use Rattle.epic_app.specs.Kept.{Kept, adding, opening}
 use Rattle.epic_app.specs.Limits.{file_limit, script_limit, topology_limit}
 use Rattle.epic_app.specs.Readings.{Reading, Whole, Failed, Unread}
 use Rattle.epic_words.specs.Request.{Request, Hop, Run, Gen, RunRequest}
 use Rattle.epic_app.specs.RunReport.{all_verdicts, has_alarm, run_alarms, step_text}
-use Rattle.epic_app.specs.Saved.{opening, saved_in}
 
 pub record Progress : Type 0 where
   -- what it does, in order
@@ -82,55 +83,55 @@ unfoldable pub hop_done : List ℕ → List HopCommand → Progress
 hop_done key commands =
     ends (prints (hop_report key commands)) (alarm_status (nat_lt 0 (count_by is_forged (answers key commands)))) []
 
--- the lines of a step behind others are written, and then what it emitted is saved
-unfoldable pub step_acts : Option (List ℕ) → Showing → Network → List Done → Done → List Act
-step_acts save show t before d = prints (step_text show t before d) ++ appends save (saved_in d)
+-- the lines of a step behind others are written, and then it is added to the files that are kept
+unfoldable pub step_acts : List Kept → Showing → Network → List Done → Done → List Act
+step_acts kept show t before d = prints (step_text show t before d) ++ adding kept t d
 
--- the saved file is opened, and the steps are done
-unfoldable pub steps_acts : Option (List ℕ) → Showing → Network → List Done → List Act
-steps_acts save show t steps = opening save ++ along (step_acts save show t) [] steps
+-- the files are made, and the steps are done
+unfoldable pub steps_acts : List Kept → Showing → Network → List Done → List Act
+steps_acts kept show t steps = opening kept ++ along (step_acts kept show t) [] steps
 
 -- so, and at the end the line with the counts is written
-unfoldable pub run_acts : Option (List ℕ) → Showing → Network → List Done → List Act
-run_acts save show t steps =
-    opening save
-    ++ (along (step_acts save show t) [] steps ++ prints (end_line (counts_of (shown show.script (length steps)) (all_verdicts steps))))
+unfoldable pub run_acts : List Kept → Showing → Network → List Done → List Act
+run_acts kept show t steps =
+    opening kept
+    ++ (along (step_acts kept show t) [] steps ++ prints (end_line (counts_of (shown show.script (length steps)) (all_verdicts steps))))
 
 -- how the steps are shown of a run with these words, whose script has so many
 abbrev pub showing : RunRequest → ℕ → Showing
 showing r script = record { script = script; makers = r.makers; police = r.police }
 
 -- the script's commands and then those of records are done one after the other
-unfoldable pub run_done : Option (List ℕ) → Showing → Network → List Command → List Captured → Progress
-run_done save show t commands records =
+unfoldable pub run_done : List Kept → Showing → Network → List Command → List Captured → Progress
+run_done kept show t commands records =
     let steps = run t (run_commands commands records) in
-    ends (run_acts save show t steps) (alarm_status (run_alarms show t steps)) []
+    ends (run_acts kept show t steps) (alarm_status (run_alarms show t steps)) []
 
 -- they are done, but then the run ends without its last line
-unfoldable pub run_cut : Option (List ℕ) → Showing → Network → List Command → List Captured → ℕ → List ℕ → Progress
-run_cut save show t commands records status line =
-    ends (steps_acts save show t (run t (run_commands commands records))) status line
+unfoldable pub run_cut : List Kept → Showing → Network → List Command → List Captured → ℕ → List ℕ → Progress
+run_cut kept show t commands records status line =
+    ends (steps_acts kept show t (run t (run_commands commands records))) status line
 
 -- the records of a whole capture, up to its first damage
-unfoldable pub by_records : Option (List ℕ) → Showing → Network → List Command → List Captured → Option Damage → Progress
-by_records save show t commands records None = run_done save show t commands records
-by_records save show t commands records (Some damage) = run_cut save show t commands records 5 (capture_line damage)
+unfoldable pub by_records : List Kept → Showing → Network → List Command → List Captured → Option Damage → Progress
+by_records kept show t commands records None = run_done kept show t commands records
+by_records kept show t commands records (Some damage) = run_cut kept show t commands records 5 (capture_line damage)
 
 -- a run whose capture is this reading
-unfoldable pub on_capture : List ℕ → Reading → Option (List ℕ) → Showing → Network → List Command → Progress
-on_capture name (Whole bytes) save show t commands = by_records save show t commands (records_in bytes).items (records_in bytes).damage
-on_capture name (Failed front) save show t commands = run_cut save show t commands (records_in front).items 6 (read_line name)
-on_capture name Unread save show t commands = goes_on (steps_acts save show t (run t commands))
+unfoldable pub on_capture : List ℕ → Reading → List Kept → Showing → Network → List Command → Progress
+on_capture name (Whole bytes) kept show t commands = by_records kept show t commands (records_in bytes).items (records_in bytes).damage
+on_capture name (Failed front) kept show t commands = run_cut kept show t commands (records_in front).items 6 (read_line name)
+on_capture name Unread kept show t commands = goes_on (steps_acts kept show t (run t commands))
 
 -- a run of a script, and of a capture if one is named
-unfoldable pub run_by : Option (List ℕ) → List Reading → Option (List ℕ) → Showing → Network → List Command → Progress
-run_by None [] save show t commands = run_done save show t commands []
-run_by (Some name) (reading ∷ []) save show t commands = on_capture name reading save show t commands
-run_by capture readings save show t commands = goes_on []
+unfoldable pub run_by : Option (List ℕ) → List Reading → List Kept → Showing → Network → List Command → Progress
+run_by None [] kept show t commands = run_done kept show t commands []
+run_by (Some name) (reading ∷ []) kept show t commands = on_capture name reading kept show t commands
+run_by capture readings kept show t commands = goes_on []
 
 -- so of a run with these words
 abbrev pub run_with : RunRequest → List Reading → Network → List Command → Progress
-run_with r readings t commands = run_by r.capture readings r.save (showing r (length commands)) t commands
+run_with r readings t commands = run_by r.capture readings (kept_by r) (showing r (length commands)) t commands
 
 -- the generated commands are done over the generated topology
 unfoldable pub gen_done : ℕ → ℕ → Progress

@@ -1,4 +1,5 @@
 pub mod Acts
+pub mod Added
 pub mod Along
 pub mod Claims
 pub mod Doing
@@ -8,6 +9,10 @@ pub mod FilesRead
 pub mod Generating
 pub mod HopFile
 pub mod HopReport
+pub mod Keeping
+pub mod Kept
+pub mod KeptFiles
+pub mod Ledgers
 pub mod Limits
 pub mod Noting
 pub mod Performing
@@ -16,11 +21,11 @@ pub mod Outcome
 pub mod Readings
 pub mod RunReport
 pub mod Saved
-pub mod SavedFile
 pub mod Captures
 pub mod Showing
 pub mod Spelling
 pub mod StepLines
 pub mod Writing
 pub mod Taking
+pub mod Telling
 pub mod RunEnding

@@ -1,6 +1,6 @@
 -- What else a report says of the passes of a step, where more is asked for than verdicts: who can have made the fields of level 1 that
 -- routers accepted, and what the policer of a router's AS said of a packet of level 2 or 3 that the router sent on.
-use Rattle.std.specs.Prelude.{ℕ, ◌+◌, ◌||◌, ◌&&◌, Bool, true, false, not, if◌then◌else◌, List, [], ◌∷◌, ◌++◌, map, flat_map, length, take, codes, decimal, Option, Some, None, is_some}
+use Rattle.std.specs.Prelude.{ℕ, ◌+◌, ◌||◌, Bool, true, false, if◌then◌else◌, List, [], ◌∷◌, ◌++◌, map, flat_map, length, take, codes, decimal, Option, Some, None, is_some}
 use Rattle.std.specs.List.{list_any}
 use Rattle.epic_num.specs.declared.answer.Answer.{Answer}
 use Rattle.epic_num.specs.declared.answer.Answer.TheVariants as answer

@@ -22,7 +22,9 @@ use Rattle.epic_app.specs.Performing.{Blamed, Works}
 use Rattle.epic_app.specs.Readings.{Reading, AreRead}
 use Rattle.epic_app.specs.Showing.{Showing}
 use Rattle.epic_app.specs.RunReport.{all_verdicts}
-use Rattle.epic_app.specs.Taking.{IsAfter, saved_by}
+use Rattle.epic_app.specs.Keeping.{kept_in}
+use Rattle.epic_app.specs.Kept.{Kept}
+use Rattle.epic_app.specs.Taking.{IsAfter}
 
 -- the commands of a script were done, and what is to come begins behind them
 pub record IsBehind (x : Records) (t : Network) (commands : List Command) (old new : World) : Type 0 where
@@ -34,34 +36,34 @@ pub record IsBehind (x : Records) (t : Network) (commands : List Command) (old n
   pub total : total x.tally.counts ≤ 66 * length commands
   pub alarm : x.tally.alarm ≡ list_any (shows_alarm x.show t) (run t commands)
   pub police : IsAfter x (run t commands)
-  pub done : Does (steps_acts (saved_by x) x.show t (run t commands)) old new
-  pub works : Works (saved_by x) old new
+  pub done : Does (steps_acts (kept_in x.keep) x.show t (run t commands)) old new
+  pub works : Works (kept_in x.keep) old new
   pub reads : new.reads ≡ old.reads
 
 -- the count that rose where a read of the capture or a write failed
-abbrev pub RunBlames : Option (List ℕ) → Option (List ℕ) → World → World → End → Type 0
-RunBlames capture save old new (Done forged) = ⊤
-RunBlames capture save old new BadWords = ⊤
-RunBlames capture save old new (BadTopology kind key item) = ⊤
-RunBlames capture save old new LongTopology = ⊤
-RunBlames capture save old new (BadScript line kind) = ⊤
-RunBlames capture save old new LongScript = ⊤
-RunBlames capture save old new (BadCapture damage) = ⊤
-RunBlames capture save old new (ReadFault name) =
+abbrev pub RunBlames : Option (List ℕ) → List Kept → World → World → End → Type 0
+RunBlames capture kept old new (Done forged) = ⊤
+RunBlames capture kept old new BadWords = ⊤
+RunBlames capture kept old new (BadTopology kind key item) = ⊤
+RunBlames capture kept old new LongTopology = ⊤
+RunBlames capture kept old new (BadScript line kind) = ⊤
+RunBlames capture kept old new LongScript = ⊤
+RunBlames capture kept old new (BadCapture damage) = ⊤
+RunBlames capture kept old new (ReadFault name) =
     Contains (option_to_list capture) name.now × Rose (old.reads name.now) (new.reads name.now)
-RunBlames capture save old new WriteFault = Blamed save old new
-RunBlames capture save old new OutOfMemory = ⊤
+RunBlames capture kept old new WriteFault = Blamed kept old new
+RunBlames capture kept old new OutOfMemory = ⊤
 
 -- a run of a script, and of a capture if one is named, ended so
-pub record RunEnds (capture save : Option (List ℕ)) (show : Showing) (t : Network) (commands : List Command) (old new : World) (end : End) : Type 0 where
+pub record RunEnds (capture : Option (List ℕ)) (kept : List Kept) (show : Showing) (t : Network) (commands : List Command) (old new : World) (end : End) : Type 0 where
   pub readings : List Reading
   pub are_read : AreRead old new (option_to_list capture) readings
-  pub cause : HasCause (run_by capture readings save show t commands) old new end
-  pub blames : RunBlames capture save old new end
+  pub cause : HasCause (run_by capture readings kept show t commands) old new end
+  pub blames : RunBlames capture kept old new end
   pub fits : status_of end < 2 → AllByRecursion RecordsFit readings
   pub later : (q : List ℕ) → old.reads q ≤ new.reads q
   pub reads : (q : List ℕ) → ¬ Contains (option_to_list capture) q → new.reads q ≡ old.reads q
-  pub works : Works save old new
+  pub works : Works kept old new
 
 -- no file that is written is read too
 abbrev pub IsUnshared : RunRequest → Type 0

@@ -1,10 +1,9 @@
 -- What a run saves: a capture of what its steps emitted.
-use Rattle.std.specs.Prelude.{ℕ, List, ◌++◌, length, map, drop, flat_map, Option}
+use Rattle.std.specs.Prelude.{ℕ, List, length, map, drop, flat_map}
 use Rattle.epic_capture.specs.Records.{Captured}
-use Rattle.epic_capture.specs.Saving.{file_head, saved_record}
+use Rattle.epic_capture.specs.Saving.{saved_record}
 use Rattle.epic_ledger.specs.History.{Emission}
 use Rattle.epic_world.specs.Run.{Done}
-use Rattle.epic_app.specs.Acts.{Act, appends, creates}
 
 -- an emission as a record at a moment
 abbrev pub as_captured : ℕ → Emission → Captured
@@ -21,7 +20,3 @@ saved_in d = flat_map saved_record (captured_in d)
 -- the records of all steps
 unfoldable pub captured_by : List Done → List Captured
 captured_by steps = flat_map captured_in steps
-
--- the capture's file is made, with its header, if one is named
-unfoldable pub opening : Option (List ℕ) → List Act
-opening save = creates save ++ appends save file_head

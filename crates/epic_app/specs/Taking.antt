@@ -1,8 +1,7 @@
 -- Private: serves proofs of this crate alone; no public contract cites it.
 -- What a run does that takes the records of a capture.
-use Rattle.std.specs.Prelude.{◌≡◌, ℕ, ◌+◌, ◌-◌, ◌*◌, ◌/◌, ◌^◌, ◌≤◌, ◌||◌, min, List, ◌++◌, length, Option, Contains}
+use Rattle.std.specs.Prelude.{◌≡◌, ℕ, ◌+◌, ◌-◌, ◌*◌, ◌/◌, ◌^◌, ◌≤◌, ◌||◌, min, List, ◌++◌, length, Contains}
 use Rattle.std.specs.List.{All, list_any}
-use Rattle.std.specs.Option.{option_map, option_to_list}
 use Rattle.epic_num.specs.declared.command.Command.{Command}
 use Rattle.epic_ports.specs.declared.error.PortError.{PortError}
 use Rattle.epic_text.specs.Counts.{total}
@@ -12,15 +11,13 @@ use Rattle.epic_app.specs.declared.taking.Records.{Records}
 use Rattle.epic_app.specs.Acts.{Act, World, Does}
 use Rattle.epic_app.specs.Along.{along}
 use Rattle.epic_app.specs.Doing.{step_acts}
+use Rattle.epic_app.specs.Keeping.{kept_in}
+use Rattle.epic_app.specs.Kept.{names}
 use Rattle.epic_app.specs.Noting.{offers_of, shows_alarm}
 use Rattle.epic_app.specs.Performing.{Stopped, Works}
 use Rattle.epic_app.specs.Policed.{ArePoliced}
 use Rattle.epic_app.specs.RunReport.{all_verdicts}
 use Rattle.epic_app.specs.StepLines.{count_all}
-
--- the file that is saved
-abbrev pub saved_by : Records → Option (List ℕ)
-saved_by x = option_map (λ name. name.now) x.save
 
 -- what a run has done before is this, as far as its policers know
 abbrev pub IsAfter : Records → List Done → Type 0
@@ -28,13 +25,13 @@ IsAfter x before = ArePoliced x.world.network x.show.police x.police (offers_of 
 
 -- the acts of further commands, behind these steps
 abbrev pub acts_of : Records → List Done → List Command → List Act
-acts_of x before cs = along (step_acts (saved_by x) x.show x.world.network) before (run_from x.world.network x.world.state cs)
+acts_of x before cs = along (step_acts (kept_in x.keep) x.show x.world.network) before (run_from x.world.network x.world.state cs)
 
 -- these commands were done, and their verdicts counted
 pub record Ran (x y : Records) (cs : List Command) (old new : World) : Type 0 where
   pub network : y.world.network ≡ x.world.network
   pub show : y.show ≡ x.show
-  pub save : y.save ≡ x.save
+  pub keep : y.keep ≡ x.keep
   pub state : y.world.state ≡ state_after x.world.network x.world.state cs
   pub steps : y.world.state.steps ≡ x.world.state.steps + length cs
   pub counts : y.tally.counts ≡ count_all x.tally.counts (all_verdicts (run_from x.world.network x.world.state cs))
@@ -42,17 +39,17 @@ pub record Ran (x y : Records) (cs : List Command) (old new : World) : Type 0 wh
   pub alarm : y.tally.alarm ≡ x.tally.alarm || list_any (shows_alarm x.show x.world.network) (run_from x.world.network x.world.state cs)
   pub police : (before : List Done) → IsAfter x before → IsAfter y (before ++ run_from x.world.network x.world.state cs)
   pub acts : (before : List Done) → IsAfter x before → Does (acts_of x before cs) old new
-  pub works : Works (saved_by x) old new
+  pub works : Works (kept_in x.keep) old new
   pub fits : All Fits cs
 
 -- less was done of these commands
 abbrev pub StopsIn : Records → List Command → PortError → World → World → Type 0
 StopsIn x cs e old new =
-    ((before : List Done) → IsAfter x before → Stopped (saved_by x) (acts_of x before cs) old new e) × Works (saved_by x) old new
+    ((before : List Done) → IsAfter x before → Stopped (kept_in x.keep) (acts_of x before cs) old new e) × Works (kept_in x.keep) old new
 
--- a file that isn't saved
+-- a file that isn't written
 abbrev pub spares_in : Records → List ℕ → Type 0
-spares_in x name = ¬ Contains (option_to_list (saved_by x)) name
+spares_in x name = ¬ Contains (names (kept_in x.keep)) name
 
 -- how many records can be taken
 abbrev pub room_in : Records → ℕ

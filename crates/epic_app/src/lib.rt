@@ -9,6 +9,8 @@ mod hop;
 mod hop_answer;
 mod hop_file;
 mod hop_report;
+mod judging;
+mod keeping;
 mod laws;
 mod noting;
 mod policing;
@@ -19,10 +21,11 @@ mod saving;
 mod showing;
 mod spelling;
 mod taking;
+mod telling;
 mod top;
 mod writing;
 
-pub use laws::saved_is_whole;
+pub use laws::files_are_whole;
 pub use top::epic;
 
 #[cfg(test)]

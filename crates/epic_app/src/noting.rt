@@ -391,7 +391,7 @@ fn passes_notes(
 }
 
 /// The passes that an answer tells.
-fn passes_told(answer: &Answer) -> &[Passed]
+pub(crate) fn passes_told(answer: &Answer) -> &[Passed]
     ensures { result.now ≡ spec.passes_told answer.now }
 {
     match answer {

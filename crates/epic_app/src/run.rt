@@ -18,7 +18,8 @@ const SCRIPT_LIMIT: u64 = 16_777_216;
 
 /// Reads and checks the whole topology and then the whole script, and does the script's commands
 /// one after the other, and then those of a capture's records, if one is named. What they emit is
-/// saved as a capture, if a file for it is named.
+/// saved as a capture, what happens is written to the ledger file, and the verdicts to the verdict
+/// file, as far as these are named.
 pub fn run<'a, S: Store, O: Sink>(
     alloc: Global,
     words: &RunWords<'a>,

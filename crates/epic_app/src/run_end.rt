@@ -9,11 +9,13 @@ ghost use Rattle.epic_world.specs.Stepped.{IsPossible};
 ghost use Rattle.epic_app.specs.Acts as acts;
 ghost use Rattle.epic_app.specs.Captures as captures;
 ghost use Rattle.epic_app.specs.Doing.{showing};
+ghost use Rattle.epic_app.specs.Keeping.{kept_by, kept_in};
 ghost use Rattle.epic_app.specs.RunEnding.{IsBehind, IsUnshared, RunEnds};
-ghost use Rattle.epic_app.specs.Taking.{saved_by, spares_in};
+ghost use Rattle.epic_app.specs.Taking.{spares_in};
 ghost use Rattle.epic_app.specs.Writing.{Writes};
 
 use crate::end::{End, ended};
+use crate::keeping::Keeping;
 use crate::policing::policers_of;
 use crate::run_report::{shown, tells_alarm, write_end, write_script};
 use crate::showing::Showing;
@@ -61,7 +63,7 @@ fn write_capture<'a, S: Store, O: Sink>(
         → IsBehind run.old t commands u
         (acts.world (S.contents store.old) (S.reads store.old) (S.writes store.old)
         (O.written out.old) (O.faults out.old))
-        → RunEnds (Some name.entry.now) (saved_by run.old) run.old.show t commands u
+        → RunEnds (Some name.entry.now) (kept_in run.old.keep) run.old.show t commands u
         (acts.world (S.contents store.new) (S.reads store.new) (S.writes store.new)
         (O.written out.new) (O.faults out.new)) result }
 {
@@ -74,9 +76,9 @@ fn write_capture<'a, S: Store, O: Sink>(
     }
 }
 
-/// Opens the saved file, if one is named, and does the commands of a script over a topology one
+/// Makes the files that are written besides the output, and does the commands of a script over a topology one
 /// after the other, and then those of a capture's records, if one is named. The lines of each are
-/// written, and what it emitted is saved, before the next is done.
+/// written, and the files grow by what it tells, before the next is done.
 pub fn write_run<'a, S: Store, O: Sink>(
     alloc: Global,
     topo: Topology,
@@ -88,7 +90,7 @@ pub fn write_run<'a, S: Store, O: Sink>(
     requires possible { All IsPossible commands.now }
     requires few { length commands.now ≤ 524288 }
     requires unshared { IsUnshared (names_in words.now) }
-    ensures { RunEnds (names_in words.now).capture (names_in words.now).save
+    ensures { RunEnds (names_in words.now).capture (kept_by (names_in words.now))
         (showing (names_in words.now) (length commands.now)) topo commands.now
         (acts.world (S.contents store.old) (S.reads store.old) (S.writes store.old)
         (O.written out.old) (O.faults out.old))
@@ -101,6 +103,11 @@ pub fn write_run<'a, S: Store, O: Sink>(
     let Ok(mut police) = policers_of(alloc, &topo, words.police) else {
         return End::OutOfMemory;
     };
+    let keep = Keeping {
+        save: words.save,
+        ledger: words.ledger,
+        verdicts: words.verdicts,
+    };
     let mut world = World::new(alloc, topo);
     let tally = match write_script(
         alloc,
@@ -108,7 +115,7 @@ pub fn write_run<'a, S: Store, O: Sink>(
         &mut police,
         &show,
         commands,
-        words.save,
+        &keep,
         store,
         out,
     ) {
@@ -121,7 +128,7 @@ pub fn write_run<'a, S: Store, O: Sink>(
         police,
         tally,
         show,
-        save: words.save,
+        keep,
     };
     match words.capture {
         Some(name) => write_capture(alloc, name, &mut run, store, out),

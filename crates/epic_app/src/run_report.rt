@@ -1,8 +1,10 @@
 //! The report of a run, step by step.
 
-ghost use Rattle.std.specs.Prelude.{◌≡◌, ◌+◌, ◌-◌, ◌*◌, ◌^◌, ◌<◌, ◌≤◌, ◌∷◌, ◌++◌, [], All, IfOk, List, OnOk, flat_map, length, nat_lt, option_map, ◌||◌};
+ghost use Rattle.std.specs.Prelude.{◌≡◌, ◌+◌, ◌-◌, ◌*◌, ◌^◌, ◌<◌, ◌≤◌, ◌∷◌, ◌++◌, [], All, IfOk, IfSome, List, OnOk, drop, flat_map, length, map, nat_lt, ◌||◌};
 ghost use Rattle.std.specs.List.{list_any};
+ghost use Rattle.epic_capture.specs.Saving.{saved_record};
 ghost use Rattle.epic_ledger.specs.Facts.{facts_of};
+ghost use Rattle.epic_record.specs.LedgerText.{ledger_text};
 ghost use Rattle.epic_policer.specs.Policing.{Offer};
 ghost use Rattle.epic_text.specs.Counts.{counts_of, end_line, total};
 ghost use Rattle.epic_text.specs.Report.{IsToldAnswer, bytes_in, emission_bytes};
@@ -13,16 +15,22 @@ ghost use Rattle.epic_world.specs.Stepped.{IsPossible};
 ghost use Rattle.epic_app.specs.Acts as acts;
 ghost use Rattle.epic_app.specs.Captures.{shown};
 ghost use Rattle.epic_app.specs.Doing.{step_acts, steps_acts};
+ghost use Rattle.epic_app.specs.Keeping.{kept_in};
 ghost use Rattle.epic_app.specs.Noting.{all_offered, notes_after, offers_of, passes_after, shows_alarm, some_alarms};
 ghost use Rattle.epic_app.specs.Performing.{Performs, Stays};
 ghost use Rattle.epic_app.specs.Policed.{ArePoliced, IsNotablePass};
 ghost use Rattle.epic_app.specs.RunReport.{all_verdicts, answered_text, verdicts_in};
+ghost use Rattle.epic_app.specs.Saved.{as_captured};
 ghost use Rattle.epic_app.specs.StepLines.{count_all};
+ghost use Rattle.epic_app.specs.Telling.{AreTold, AreWithin, passes_verdicts, told_since};
 ghost use Rattle.epic_app.specs.Writing.{Writes};
 
+use crate::judging::verdict_lines;
+use crate::keeping::{Added, Keeping, add_kept, open_kept};
 use crate::noting::answer_notes;
-use crate::saving::{open_saved, records_text, save_text};
+use crate::saving::records_text;
 use crate::showing::Showing;
+use crate::telling::{Mark, held, ledger_lines};
 use crate::writing::write_text;
 use epic_num::{Answer, Command, OutOfMemory, Passed, Verdict};
 use epic_policer::Policers;
@@ -138,8 +146,45 @@ pub(crate) fn count(counts: Counts, answer: &Answer) -> Counts
     }
 }
 
-/// Does a command, writes its lines, and then adds what it emitted to the saved file, if there is
-/// one. The packets that routers sent on are offered to the policers.
+/// What a step adds to the files that are kept, over the world after it. The ledger held so much
+/// before.
+fn step_files(
+    alloc: Global,
+    world: &World,
+    keep: &Keeping<'_>,
+    before: Mark,
+    command: &Command,
+    answer: &Answer,
+) -> Result<Added, OutOfMemory>
+    requires before { before.emissions ≤ length world.now.state.history.emissions }
+    requires within { AreWithin world.now.state.history before (passes_after command.now answer.now world.now.state) }
+    requires told { AreTold world.now.network (passes_after command.now answer.now world.now.state) }
+    ensures saved { IfOk result (λ r. r.saved.items
+        ≡ flat_map saved_record (map (as_captured world.now.state.moment) (drop before.emissions world.now.state.history.emissions))) }
+    ensures ledger { IfOk result (λ r. IfSome keep.now.ledger (λ name. r.ledger.items
+        ≡ ledger_text (told_since world.now.state.history before (passes_after command.now answer.now world.now.state)))) }
+    ensures verdicts { IfOk result (λ r. IfSome keep.now.verdicts (λ name. r.verdicts.items
+        ≡ passes_verdicts world.now.network (passes_after command.now answer.now world.now.state))) }
+{
+    let Ok(saved) = records_text(alloc, world.ledger(), before.emissions, world.now()) else {
+        return Err(OutOfMemory);
+    };
+    let ledger = match keep.ledger {
+        Some(_) => ledger_lines(alloc, world, before, command, answer)?,
+        None => Vec::new(alloc),
+    };
+    let verdicts = match keep.verdicts {
+        Some(_) => verdict_lines(alloc, world, command, answer)?,
+        None => Vec::new(alloc),
+    };
+    Ok(Added {
+        saved,
+        ledger,
+        verdicts,
+    })
+}
+
+/// Does a command, writes its lines, and then adds what it tells to the files that are kept. The packets that routers sent on are offered to the policers.
 pub fn write_step<S: Store, O: Sink>(
     alloc: Global,
     world: &mut World,
@@ -147,7 +192,7 @@ pub fn write_step<S: Store, O: Sink>(
     show: &Showing,
     command: &Command,
     tally: Tally,
-    save: Option<&str>,
+    keep: &Keeping<'_>,
     store: &mut S,
     out: &mut O,
 ) -> Result<Tally, PortError>
@@ -166,15 +211,15 @@ pub fn write_step<S: Store, O: Sink>(
         → OnOk result (ArePoliced world.old.network show.now.police police.new
         (offers_of (before ++ done_by world.old.network world.old.state command.now ∷ [])) world.new.state.moment) }
     ensures performs { (before : List Done) → ArePoliced world.old.network show.now.police police.old (offers_of before) world.old.state.moment
-        → Performs (option_map (λ name. name.now) save.entry)
-        (step_acts (option_map (λ name. name.now) save.entry) show.now world.old.network before
+        → Performs (kept_in keep.now)
+        (step_acts (kept_in keep.now) show.now world.old.network before
         (done_by world.old.network world.old.state command.now))
         (acts.world (S.contents store.old) (S.reads store.old) (S.writes store.old)
         (O.written out.old) (O.faults out.old))
         (acts.world (S.contents store.new) (S.reads store.new) (S.writes store.new)
         (O.written out.new) (O.faults out.new))
         result }
-    ensures stays { Stays (option_map (λ name. name.now) save.entry)
+    ensures stays { Stays (kept_in keep.now)
         (acts.world (S.contents store.old) (S.reads store.old) (S.writes store.old)
         (O.written out.old) (O.faults out.old))
         (acts.world (S.contents store.new) (S.reads store.new) (S.writes store.new)
@@ -182,7 +227,7 @@ pub fn write_step<S: Store, O: Sink>(
 {
     let _profile = world.topology().profile();
     fits(command);
-    let before = world.ledger().emissions();
+    let before = held(world.ledger());
     let answer = match world.step(alloc, command) {
         Ok(answer) => answer,
         Err(OutOfMemory) => return Err(PortError::OutOfMemory),
@@ -191,9 +236,12 @@ pub fn write_step<S: Store, O: Sink>(
         Ok(lines) => lines,
         Err(OutOfMemory) => return Err(PortError::OutOfMemory),
     };
-    let records = records_text(alloc, world.ledger(), before, world.now())?;
+    let added = match step_files(alloc, world, keep, before, command, &answer) {
+        Ok(added) => added,
+        Err(OutOfMemory) => return Err(PortError::OutOfMemory),
+    };
     write_text(&lines.text, out)?;
-    save_text(save, &records, store)?;
+    add_kept(keep, &added, store)?;
     Ok(Tally {
         counts: count(tally.counts, &answer),
         alarm: tally.alarm | lines.alarm,
@@ -228,11 +276,11 @@ pub fn tells_alarm(counts: &Counts) -> bool
     counts.forged > 0 || counts.collided > 0
 }
 
-/// Opens the saved file, if there is one, and does the commands of a script one after the other in
-/// a new world, with policers to which nothing was offered. The lines of each are written, and what
-/// it emitted is saved, before the next is done.
+/// Makes the files that are kept, and does the commands of a script one after the other in a new
+/// world, with policers to which nothing was offered. The lines of each are written, and the files
+/// grow by what it tells, before the next is done.
 ///
-/// Answers the counts of the verdicts. `PortError::Failed` comes only where `out` or the saved file
+/// Answers the counts of the verdicts. `PortError::Failed` comes only where `out` or such a file
 /// counted a failed write.
 pub fn write_script<S: Store, O: Sink>(
     alloc: Global,
@@ -240,7 +288,7 @@ pub fn write_script<S: Store, O: Sink>(
     police: &mut Option<Policers>,
     show: &Showing,
     commands: &[Command],
-    save: Option<&str>,
+    keep: &Keeping<'_>,
     store: &mut S,
     out: &mut O,
 ) -> Result<Tally, PortError>
@@ -259,26 +307,26 @@ pub fn write_script<S: Store, O: Sink>(
         list_any (shows_alarm show.now world.old.network) (run world.old.network commands.now)) }
     ensures police { OnOk result (ArePoliced world.old.network show.now.police police.new
         (offers_of (run world.old.network commands.now)) world.new.state.moment) }
-    ensures performs { Performs (option_map (λ name. name.now) save.entry)
-        (steps_acts (option_map (λ name. name.now) save.entry) show.now world.old.network (run world.old.network commands.now))
+    ensures performs { Performs (kept_in keep.now)
+        (steps_acts (kept_in keep.now) show.now world.old.network (run world.old.network commands.now))
         (acts.world (S.contents store.old) (S.reads store.old) (S.writes store.old)
         (O.written out.old) (O.faults out.old))
         (acts.world (S.contents store.new) (S.reads store.new) (S.writes store.new)
         (O.written out.new) (O.faults out.new))
         result }
-    ensures stays { Stays (option_map (λ name. name.now) save.entry)
+    ensures stays { Stays (kept_in keep.now)
         (acts.world (S.contents store.old) (S.reads store.old) (S.writes store.old)
         (O.written out.old) (O.faults out.old))
         (acts.world (S.contents store.new) (S.reads store.new) (S.writes store.new)
         (O.written out.new) (O.faults out.new)) }
 {
-    open_saved(save, store)?;
+    open_kept(keep, store)?;
     let mut tally = Tally {
         counts: Counts::default(),
         alarm: false,
     };
     for command in commands {
-        tally = write_step(alloc, world, police, show, command, tally, save, store, out)?;
+        tally = write_step(alloc, world, police, show, command, tally, keep, store, out)?;
     }
     Ok(tally)
 }

@@ -448,6 +448,46 @@ fn runs_that_save(rt: HostRuntime) -> Result<(), Fail> {
     Ok(())
 }
 
+// A right field of a hop that was never issued.
+const FORGING: &str = "at 1700000000000000\n\
+    originate 1-ff00:0:110 2 63\n\
+    extend 1 2 63\n\
+    extend 2 0 63\n\
+    turn 1-ff00:0:112 0 e0000060000001000001ff00000001120001ff000000011000000001000000030000000000000000010300006553f1003e00010000f02fdcef5be86197f8c9613f000100025fc8567cf27d6859545a3e3f000000020000000000000000c11c94\n";
+
+const LEDGER: &str = "issue 2 1 1-ff00:0:110 0 013f6553f100000000020000000000000000 0\n\
+    issue 3 2 1-ff00:0:111 0 023f6553f100000100025fc8567cf27d6859 1\n\
+    issue 4 3 1-ff00:0:112 0 033f6553f10000010000f02fdcef5be86197 2\n\
+    accept hop 1-ff00:0:112 0 0 e0000060000001000001ff00000001120001ff000000011000000001000000030000000000000000010300006553f1003e00010000f02fdcef5be86197f8c9613f000100025fc8567cf27d6859545a3e3f000000020000000000000000c11c94\n\
+    emit 1 turn 1-ff00:0:111 2 e0000060000001010001ff00000001120001ff000000011000000001000000030000000000000000010300006553f1003e00010000f02fdcef5be86197f8c9613f000100025fc8567cf27d6859545a3e3f000000020000000000000000c11c94\n\
+    pass 5 1-ff00:0:112 0 0 1\n";
+
+const VERDICTS: &str =
+    "hop 0 forged issue fwd,1-ff00:0:112,0 01033e6553f10000010000f02fdcef5be86197 f8c961\n";
+
+#[test]
+fn runs_that_are_kept(rt: HostRuntime) -> Result<(), Fail> {
+    let file = |file| Faults { file, ..NO_FAULTS };
+    for (faults, status, ledger, verdicts) in [
+        (NO_FAULTS, 1, LEDGER, VERDICTS),
+        // The files are made one after the other.
+        (file("v"), 7, "", ""),
+    ] {
+        let run = run_files(
+            &rt,
+            rt.alloc(),
+            &["--ledger", "l", "--verdicts", "v"],
+            TOPOLOGY.as_bytes(),
+            FORGING.as_bytes(),
+            &faults,
+        )?;
+        assert_eq!(rt; run.store.file("l").unwrap_or(&[]), ledger.as_bytes());
+        assert_eq!(rt; run.store.file("v").unwrap_or(&[]), verdicts.as_bytes());
+        assert_eq!(rt; run.status, status);
+    }
+    Ok(())
+}
+
 // The lines of the packet that the capture holds, at the next router.
 const CAPTURED: &str =
     "6 forward 1 2 e0000060000001020001ff00000001120001ff000000011000000001000000030000000000000000010300006553f1003f00010000f02fdcef5be861973095d23f000100025fc8567cf27d6859545a3e3f000000020000000000000000c11c94\n\

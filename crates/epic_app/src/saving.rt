@@ -1,56 +1,15 @@
-//! The capture of what is emitted: a file that grows with the run.
+//! The records of what is emitted.
 
 ghost use Rattle.std.specs.Prelude.{◌≡◌, ◌+◌, ◌≤◌, ◌++◌, ℕ, List, Option, Some, All, IfOk, OnOk, drop, flat_map, length, map, option_map};
 ghost use Rattle.epic_capture.specs.Saving.{saved_record};
 ghost use Rattle.epic_ledger.specs.History.{Emission, emission_at};
 ghost use Rattle.epic_ledger.specs.Lawful.{IsEmission};
-ghost use Rattle.epic_app.specs.Acts.{appends, world};
-ghost use Rattle.epic_app.specs.Performing.{Performs, Stays};
-ghost use Rattle.epic_app.specs.Saved.{as_captured, opening};
+ghost use Rattle.epic_app.specs.Saved.{as_captured};
 
-use epic_capture::{file_head, record_head};
+use epic_capture::record_head;
 use epic_ledger::Ledger;
 use epic_num::Place;
-use epic_ports::{PortError, Store, append_all};
 use std::alloc::{AllocError, Global};
-
-/// Makes the saved file, if there is one, and writes its header.
-pub fn open_saved<S: Store>(save: Option<&str>, store: &mut S) -> Result<(), PortError>
-    ensures performs { (written : Option (List ℕ)) (faults : ℕ) →
-        Performs (option_map (λ name. name.now) save.entry) (opening (option_map (λ name. name.now) save.entry))
-        (world (S.contents store.old) (S.reads store.old) (S.writes store.old) written faults)
-        (world (S.contents store.new) (S.reads store.new) (S.writes store.new) written faults)
-        result }
-    ensures stays { (written : Option (List ℕ)) (faults : ℕ) →
-        Stays (option_map (λ name. name.now) save.entry)
-        (world (S.contents store.old) (S.reads store.old) (S.writes store.old) written faults)
-        (world (S.contents store.new) (S.reads store.new) (S.writes store.new) written faults) }
-{
-    let Some(name) = save else {
-        return Ok(());
-    };
-    store.create(name)?;
-    append_all(store, name, &file_head())
-}
-
-/// Adds a text at the end of the saved file, if there is one.
-pub fn save_text<S: Store>(save: Option<&str>, text: &[u8], store: &mut S) -> Result<(), PortError>
-    ensures performs { (written : Option (List ℕ)) (faults : ℕ) →
-        Performs (option_map (λ name. name.now) save.entry)
-        (appends (option_map (λ name. name.now) save.entry) text.now)
-        (world (S.contents store.old) (S.reads store.old) (S.writes store.old) written faults)
-        (world (S.contents store.new) (S.reads store.new) (S.writes store.new) written faults)
-        result }
-    ensures stays { (written : Option (List ℕ)) (faults : ℕ) →
-        Stays (option_map (λ name. name.now) save.entry)
-        (world (S.contents store.old) (S.reads store.old) (S.writes store.old) written faults)
-        (world (S.contents store.new) (S.reads store.new) (S.writes store.new) written faults) }
-{
-    match save {
-        Some(name) => append_all(store, name, text),
-        None => Ok(()),
-    }
-}
 
 /// Appends a record of a packet at a moment, in microseconds.
 fn push_record(to: &mut Vec<u8>, moment: u64, place: &Place, bytes: &[u8]) -> Result<(), AllocError>

@@ -7,9 +7,11 @@ ghost use Rattle.epic_text.specs.Counts.{total};
 ghost use Rattle.epic_world.specs.Stepped.{IsPossible};
 ghost use Rattle.epic_app.specs.Acts as acts;
 ghost use Rattle.epic_app.specs.Captures as captures;
+ghost use Rattle.epic_app.specs.Keeping.{kept_in};
 ghost use Rattle.epic_app.specs.Performing.{Works};
-ghost use Rattle.epic_app.specs.Taking.{Ran, StopsIn, saved_by};
+ghost use Rattle.epic_app.specs.Taking.{Ran, StopsIn};
 
+use crate::keeping::Keeping;
 use crate::run_report::{Tally, write_step};
 use crate::showing::Showing;
 use epic_capture::Record;
@@ -30,8 +32,8 @@ pub struct Records<'a> {
     pub police: Option<Policers>,
     pub tally: Tally,
     pub show: Showing,
-    /// The file that is saved.
-    pub save: Option<&'a str>,
+    /// The files that are written.
+    pub keep: Keeping<'a>,
 }
 
 /// The command that sets the clock to a moment, in microseconds.
@@ -81,8 +83,8 @@ impl Records<'_> {
             (O.written out.old) (O.faults out.old))
             (acts.world (S.contents store.new) (S.reads store.new) (S.writes store.new)
             (O.written out.new) (O.faults out.new))) }
-        ensures save { self.new.save ≡ self.old.save }
-        ensures works { Works (saved_by self.old)
+        ensures keep { self.new.keep ≡ self.old.keep }
+        ensures works { Works (kept_in self.old.keep)
             (acts.world (S.contents store.old) (S.reads store.old) (S.writes store.old)
             (O.written out.old) (O.faults out.old))
             (acts.world (S.contents store.new) (S.reads store.new) (S.writes store.new)
@@ -97,7 +99,7 @@ impl Records<'_> {
             &self.show,
             command,
             self.tally,
-            self.save,
+            &self.keep,
             store,
             out,
         ) {

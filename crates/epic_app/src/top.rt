@@ -60,7 +60,8 @@ pub fn epic<S: Store, O: Sink, E: Sink>(
     // topology. Each step goes on from a state whose ledger is lawful and kept, in which no router accepted one packet twice
     // and segments are whole, and so does the end of the run. Each verdict of each passage is true
     // over the ledger before that passage, and Proved exactly where the provenance stands there;
-    // honest packets are carried. A saved file is a capture of what was emitted. In the report of
+    // honest packets are carried. A saved file is a capture of what was emitted, a ledger file has the
+    // lines of all that happened, and a verdict file those of all verdicts. In the report of
     // `hop` each `accept proved K` names an earlier issue of that body, each `accept forged` is a
     // right field of a body that no earlier line issued, and each refused field is wrong.
     ensures report_holds { ReportHolds (map string_bytes words.now)

@@ -1,4 +1,4 @@
-use Rattle.std.proofs.Common.{rules, ◌≡◌, ◌+◌, ◌*◌, ◌<◌, ◌≤◌, ◌++◌, length, take, get_or, None, sym, ap, ◌∙◌, arith}
+use Rattle.std.proofs.Common.{rules, ◌≡◌, ◌+◌, ◌*◌, ◌<◌, ◌≤◌, ◌++◌, length, take, get_or, [], sym, ap, ◌∙◌, arith}
 use Rattle.std.proofs.lemmas.Option.{get_or_from_slice_get, slice_get_within}
 use Rattle.epic_gen.specs.Names.{generator_key}
 use Rattle.epic_gen.specs.Script.{generated}
@@ -27,13 +27,13 @@ loop-place-preserved c =
     let steps_so_far = run_from t start (take i cs) in
     let (network, state, digest, counts, steps, few) = c.loop-place.invariant in (
       c.in_ok-counts.ensures.network ∙ network,
-      c.in_ok-counts.ensures.state ∙ ((λ k. (next (network k) (state k) (is k)).state) ∙ sym (next_state None (plainly n) t cs i d within)),
+      c.in_ok-counts.ensures.state ∙ ((λ k. (next (network k) (state k) (is k)).state) ∙ sym (next_state [] (plainly n) t cs i d within)),
       c.in_ok-counts.ensures.digest steps_so_far
           ∙ ((λ k. record (digest k) { message = (digest k).message ++ step_text (plainly n) (network k) steps_so_far (done_by (network k) (state k) (is k)) })
           ∙ ap (λ m. record { key = generator_key; message = m }) (sym (next_text (plainly n) t cs i d within))),
       c.in_ok-counts.ensures.counts
           ∙ ((λ k. count_all (counts k) (verdicts_in (next (network k) (state k) (is k)).answer))
-          ∙ (count_all-counts 0 (all_verdicts (run_from t start (take i cs))) (verdicts_in (next t (state_after t start (take i cs)) (get_or cs i d)).answer) ∙ ap (counts_of 0) (sym (next_verdicts None (plainly n) t cs i d within)))),
+          ∙ (count_all-counts 0 (all_verdicts (run_from t start (take i cs))) (verdicts_in (next t (state_after t start (take i cs)) (get_or cs i d)).answer) ∙ ap (counts_of 0) (sym (next_verdicts [] (plainly n) t cs i d within)))),
       ap (λ (s : _). s.steps) c.in_ok-counts.ensures.state ∙ (next_counts c.loop-place.world.network c.loop-place.world.state d ∙ ap (λ n. n + 1) steps),
       omega (arith, c.in_ok-counts.ensures.total, few),
     )

@@ -1,6 +1,5 @@
-use Rattle.std.proofs.Common.{◌≡◌, ◌++◌, ◌∷◌, [], ap, subst, sym, ◌∙◌, arith}
+use Rattle.std.proofs.Common.{◌≡◌, arith}
 use Rattle.std.proofs.lemmas.Bool.Decides.{nat_tests}
-use Rattle.epic_policer.specs.Policing.{StandFor}
 use Rattle.epic_app.proofs.PolicedLaws.{latest_is, offered_more, when_ok}
 use Rattle.epic_app.proofs.noting.offer.Goals as goal
 

@@ -1,9 +1,8 @@
-use Rattle.std.proofs.Common.{◌≡◌, ℕ, ◌+◌, ◌<◌, ◌≤◌, ◌++◌, ◌∷◌, [], ◌||◌, List, length, get_or, take, drop, refl, ap, sym, subst, ◌∙◌, append-nil, arith}
+use Rattle.std.proofs.Common.{◌≡◌, ℕ, ◌+◌, ◌++◌, ◌∷◌, [], ◌||◌, List, take, drop, refl, ap, sym, subst, ◌∙◌, append-nil, arith}
 use Rattle.epic_ledger.specs.Facts.{facts_of}
 use Rattle.epic_ledger.specs.History.{History}
-use Rattle.epic_policer.specs.Policing.{Offer}
 use Rattle.epic_text.specs.Report.{emission_bytes}
-use Rattle.epic_app.specs.Noting.{Coming, all_offered, coming, noted_along, offered, some_alarms}
+use Rattle.epic_app.specs.Noting.{Coming, all_offered, coming, noted_along, some_alarms}
 use Rattle.epic_app.specs.Policed.{ArePoliced, IsNotablePass}
 use Rattle.epic_app.proofs.NotingLaws.{alarms-last, all_taken, noted-last, offered-last, one_taken, rest_left, this_holds}
 use Rattle.epic_app.proofs.noting.passes_notes.Goals as goal

@@ -1,5 +1,4 @@
-use Rattle.std.proofs.Common.{◌≡◌, ◌≤◌, ◌∷◌, ◌++◌, [], length, ap, sym, ◌∙◌, arith}
-use Rattle.epic_topo.specs.Lawful.{IsTopology}
+use Rattle.std.proofs.Common.{◌∷◌, ◌++◌, [], ap, sym, ◌∙◌, arith}
 use Rattle.epic_app.proofs.PolicedLaws.{as_all, as_here, as_past}
 use Rattle.epic_app.proofs.policing.ases_of.Goals as goal
 

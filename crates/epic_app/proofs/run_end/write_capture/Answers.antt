@@ -1,6 +1,6 @@
 use Rattle.std.proofs.Common.{refl, arith}
 use Rattle.epic_app.specs.Acts.{World, world}
-use Rattle.epic_app.specs.Taking.{saved_by}
+use Rattle.epic_app.specs.Keeping.{kept_in}
 use Rattle.epic_app.proofs.RanLaws.{took_none, took_read, works_read}
 use Rattle.epic_app.proofs.RunEndLaws.{few_verdicts, run_cut_short, run_damaged, run_failed, run_finished, run_memory}
 use Rattle.epic_app.proofs.StepWriting.{keeps_all}
@@ -26,7 +26,7 @@ returns-in-Ok g c = λ t commands u behind.
     rw c.ended.ensures
     (run_finished c.args.run.now t commands u old behind c.args.name.now c.requires.spares new c.feed.ensures.reads c.feed.new.taker last c.write_last.result c.in-Ok.ensures.feeds
     (keeps_all (g.S.Store.contents c.feed.new.store)) refl
-    (works_read (saved_by c.args.run.now) new last (keeps_all (g.S.Store.contents c.feed.new.store)) c.write_last.ensures.later refl)
+    (works_read (kept_in c.args.run.now.keep) new last (keeps_all (g.S.Store.contents c.feed.new.store)) c.write_last.ensures.later refl)
     c.write_last.ensures.text c.write_last.ensures.forged)
 
 pub returns-in-Err-Damaged : goal.returns-in-Err-Damaged

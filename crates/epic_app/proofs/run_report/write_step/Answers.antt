@@ -1,22 +1,22 @@
 use Rattle.std.proofs.Common.{rules, ◌≡◌, ◌||◌, ℕ, length, Ok, Err, ap, subst, ◌∙◌, arith}
-use Rattle.std.specs.Option.{option_map}
 use Rattle.epic_num.specs.declared.answer.Answer.{Answer}
-use Rattle.epic_ports.specs.declared.error.PortError.TheVariants.{OutOfMemory}
 use Rattle.epic_topo.specs.Lawful.{IsTopology}
 use Rattle.epic_topo.specs.Network.{Network}
-use Rattle.epic_ledger.specs.History.{History}
-use Rattle.epic_model.specs.State.{State}
 use Rattle.epic_model.specs.Steps.{next}
 use Rattle.epic_world.specs.Run.{done_by}
 use Rattle.epic_app.specs.Captures.{shown}
+use Rattle.epic_app.specs.Keeping.{kept_in}
 use Rattle.epic_app.specs.Noting.{notes_after, offers_of, shows_alarm}
 use Rattle.epic_app.specs.Policed.{ArePoliced}
+use Rattle.epic_app.specs.Telling.{mark_of}
 use Rattle.epic_app.specs.RunReport.{answered_text, verdicts_in}
+use Rattle.epic_app.proofs.Adding.{step_adds}
+use Rattle.epic_app.proofs.Passages.{are_within}
 use Rattle.epic_app.proofs.Acting.{performs_err, stays_both}
 use Rattle.epic_app.proofs.EmissionsGrow.{emissions_grow, moments_rise}
 use Rattle.epic_app.proofs.PolicedLaws.{offers_last, police_later}
-use Rattle.epic_app.proofs.StepWriting.{lines_are, lines_stopped, records_are, stays_written, step_performed, stopped_same}
-use Rattle.epic_app.proofs.Told.{answers_are_few, answers_are_notable, answers_are_told}
+use Rattle.epic_app.proofs.StepWriting.{lines_are, lines_stopped, stays_written, step_performed, stopped_same}
+use Rattle.epic_app.proofs.Told.{answers_are_few, answers_are_notable, answers_are_told, verdicts_can_be_told}
 use Rattle.epic_app.proofs.run_report.write_step.Goals as goal
 
 pub returns-in-Err-clause-performs : goal.returns-in-Err-clause-performs
@@ -36,19 +36,21 @@ step_lines-requires g c =
 pub returns-in-Err-step_lines-clause-performs : goal.returns-in-Err-step_lines-clause-performs
 returns-in-Err-step_lines-clause-performs g c = λ before policed. stopped_same _ _
 
-pub records_text-requires-clause-before : goal.records_text-requires-clause-before
-records_text-requires-clause-before g c =
+pub step_files-requires : goal.step_files-requires
+step_files-requires g c =
     let t = c.args.world.now.network in
     let s = c.args.world.now.state in
-    let before = c.emissions-before.ensures
-    ∙ ap (λ (h : History). length h.emissions) c.ledger.ensures.history in
-    let after = ap (λ (h : History). length h.emissions)
-    (c.ledger-2.ensures.history ∙ ap (λ (x : State). x.history) c.in-Ok.ensures.step.1) in
-    omega (arith, before, after, emissions_grow t s c.args.command.now)
+    let topology = subst (λ (n : Network). IsTopology n) c.topology.ensures c.profile-profile.ensures.lawful in
+    let marked : c.held-before.result ≡ mark_of s.history = c.held-before.ensures ∙ ap mark_of c.ledger.ensures.history in
+    rw (c.in-Ok.ensures.network, c.in-Ok.ensures.step.1, c.in-Ok.ensures.step.0, marked)
+    (record {
+      before = emissions_grow t s c.args.command.now;
+      within = are_within t s c.args.command.now;
+      told = verdicts_can_be_told t s c.args.command.now topology c.fits.ensures c.ledger.ensures.world;
+    })
 
-pub returns-in_err-records-clause-performs : goal.returns-in_err-records-clause-performs
-returns-in_err-records-clause-performs g c = λ before policed.
-    performs_err _ _ _ _ _ OutOfMemory (search rules) (stopped_same _ _)
+pub returns-in-Err-step_files-clause-performs : goal.returns-in-Err-step_files-clause-performs
+returns-in-Err-step_files-clause-performs g c = λ before policed. stopped_same _ _
 
 pub returns-in_err-write_text-clause-performs : goal.returns-in_err-write_text-clause-performs
 returns-in_err-write_text-clause-performs g c = λ before policed.
@@ -64,14 +66,14 @@ returns-in_err-write_text-clause-performs g c = λ before policed.
     ∙ ((rw (c.in-Ok.ensures.network, c.in-Ok.ensures.step.1, c.in-Ok.ensures.step.0) at c.in-Ok-step_lines.ensures.text) (offers_of before) later) in
     let e = c.in_err-write_text.field-0.0 in
     performs_err _ _ _ _ _ e (search rules)
-    (lines_stopped (option_map (λ (name : _). name.now) c.args.save) c.args.show.now t before s c.args.command.now
+    (lines_stopped (kept_in c.args.keep.now) c.args.show.now t before s c.args.command.now
     (g.S.Store.contents c.args.store.now) (g.S.Store.reads c.args.store.now) (g.S.Store.writes c.args.store.now)
     (g.O.Sink.written c.args.out.now) (g.O.Sink.written c.write_text.new.out)
     (g.O.Sink.faults c.args.out.now) (g.O.Sink.faults c.write_text.new.out)
     c.deref.result.now (lines_are t s c.args.command.now c.args.show.now before _ text) e c.in_err-write_text.ensures.text)
 
-pub returns-in_err-save_text-clause-performs : goal.returns-in_err-save_text-clause-performs
-returns-in_err-save_text-clause-performs g c = λ before policed.
+pub returns-in_err-add_kept-clause-performs : goal.returns-in_err-add_kept-clause-performs
+returns-in_err-add_kept-clause-performs g c = λ before policed.
     let t = c.args.world.now.network in
     let s = c.args.world.now.state in
     let n = next t s c.args.command.now in
@@ -84,26 +86,26 @@ returns-in_err-save_text-clause-performs g c = λ before policed.
     ∙ ((rw (c.in-Ok.ensures.network, c.in-Ok.ensures.step.1, c.in-Ok.ensures.step.0) at c.in-Ok-step_lines.ensures.text) (offers_of before) later) in
     let written = g.O.Sink.written c.write_text.new.out in
     let faults = g.O.Sink.faults c.write_text.new.out in
-    let records = records_are t s c.args.command.now c.deref-2.result.now c.emissions-before.result c.now.result
-    c.ledger-2.result.now.history (c.deref-2.ensures.value ∙ c.in_ok-records.ensures)
-    (c.emissions-before.ensures ∙ ap (λ (h : History). length h.emissions) c.ledger.ensures.history)
-    (c.now.ensures.value ∙ ap (λ (x : State). x.moment) c.in-Ok.ensures.step.1)
-    (c.ledger-2.ensures.history ∙ ap (λ (x : State). x.history) c.in-Ok.ensures.step.1) in
-    let e = c.in_err-save_text.field-0.0 in
+    let acts = step_adds c.args.keep.now t s c.args.command.now c.in-Ok-step_files.added.saved.items c.in-Ok-step_files.added.ledger.items c.in-Ok-step_files.added.verdicts.items
+    c.held-before.result (c.held-before.ensures ∙ ap mark_of c.ledger.ensures.history)
+    (rw c.in-Ok.ensures.step.1 at c.in-Ok-step_files.ensures.saved)
+    (rw (c.in-Ok.ensures.step.1, c.in-Ok.ensures.step.0) at c.in-Ok-step_files.ensures.ledger)
+    (rw (c.in-Ok.ensures.network, c.in-Ok.ensures.step.1, c.in-Ok.ensures.step.0) at c.in-Ok-step_files.ensures.verdicts) in
+    let e = c.in_err-add_kept.field-0.0 in
     performs_err _ _ _ _ _ e (search rules)
-    (step_performed (option_map (λ (name : _). name.now) c.args.save) c.args.show.now t before s c.args.command.now
+    (step_performed (kept_in c.args.keep.now) c.args.show.now t before s c.args.command.now
     (g.S.Store.contents c.args.store.now) (g.S.Store.reads c.args.store.now) (g.S.Store.writes c.args.store.now)
     (g.O.Sink.written c.args.out.now) written (g.O.Sink.faults c.args.out.now) faults
     c.deref.result.now (lines_are t s c.args.command.now c.args.show.now before _ text)
-    {X = ℕ} c.deref-2.result.now _ (Err e) records c.in_ok-write_text.ensures.text c.write_text.ensures.later
-    (c.in_err-save_text.ensures.performs written faults))
+    {X = ℕ} _ (Err e) c.in_ok-write_text.ensures.text c.write_text.ensures.later
+    (rw acts at (c.in_err-add_kept.ensures written faults).0))
 
-pub returns-in_err-save_text-clause-stays : goal.returns-in_err-save_text-clause-stays
-returns-in_err-save_text-clause-stays g c =
-    stays_both (option_map (λ (name : _). name.now) c.args.save) _ _ _
+pub returns-in_err-add_kept-clause-stays : goal.returns-in_err-add_kept-clause-stays
+returns-in_err-add_kept-clause-stays g c =
+    stays_both (kept_in c.args.keep.now) _ _ _
     (stays_written _ (g.S.Store.contents c.args.store.now) (g.S.Store.reads c.args.store.now) (g.S.Store.writes c.args.store.now)
     (g.O.Sink.written c.args.out.now) (g.O.Sink.written c.write_text.new.out) _ _ c.write_text.ensures.later)
-    (c.save_text.ensures.stays (g.O.Sink.written c.write_text.new.out) (g.O.Sink.faults c.write_text.new.out))
+    (c.add_kept.ensures (g.O.Sink.written c.write_text.new.out) (g.O.Sink.faults c.write_text.new.out)).1
 
 pub count-requires : goal.count-requires
 count-requires g c =
@@ -135,24 +137,24 @@ returns-clause-performs g c = λ before policed.
     ∙ ((rw (c.in-Ok.ensures.network, c.in-Ok.ensures.step.1, c.in-Ok.ensures.step.0) at c.in-Ok-step_lines.ensures.text) (offers_of before) later) in
     let written = g.O.Sink.written c.write_text.new.out in
     let faults = g.O.Sink.faults c.write_text.new.out in
-    let records = records_are t s c.args.command.now c.deref-2.result.now c.emissions-before.result c.now.result
-    c.ledger-2.result.now.history (c.deref-2.ensures.value ∙ c.in_ok-records.ensures)
-    (c.emissions-before.ensures ∙ ap (λ (h : History). length h.emissions) c.ledger.ensures.history)
-    (c.now.ensures.value ∙ ap (λ (x : State). x.moment) c.in-Ok.ensures.step.1)
-    (c.ledger-2.ensures.history ∙ ap (λ (x : State). x.history) c.in-Ok.ensures.step.1) in
-    step_performed (option_map (λ (name : _). name.now) c.args.save) c.args.show.now t before s c.args.command.now
+    let acts = step_adds c.args.keep.now t s c.args.command.now c.in-Ok-step_files.added.saved.items c.in-Ok-step_files.added.ledger.items c.in-Ok-step_files.added.verdicts.items
+    c.held-before.result (c.held-before.ensures ∙ ap mark_of c.ledger.ensures.history)
+    (rw c.in-Ok.ensures.step.1 at c.in-Ok-step_files.ensures.saved)
+    (rw (c.in-Ok.ensures.step.1, c.in-Ok.ensures.step.0) at c.in-Ok-step_files.ensures.ledger)
+    (rw (c.in-Ok.ensures.network, c.in-Ok.ensures.step.1, c.in-Ok.ensures.step.0) at c.in-Ok-step_files.ensures.verdicts) in
+    step_performed (kept_in c.args.keep.now) c.args.show.now t before s c.args.command.now
     (g.S.Store.contents c.args.store.now) (g.S.Store.reads c.args.store.now) (g.S.Store.writes c.args.store.now)
     (g.O.Sink.written c.args.out.now) written (g.O.Sink.faults c.args.out.now) faults
     c.deref.result.now (lines_are t s c.args.command.now c.args.show.now before _ text)
-    {X = ℕ} c.deref-2.result.now _ (Ok 0) records c.in_ok-write_text.ensures.text c.write_text.ensures.later
-    (c.in_ok-save_text.ensures.performs written faults)
+    {X = ℕ} _ (Ok 0) c.in_ok-write_text.ensures.text c.write_text.ensures.later
+    (rw acts at (c.in_ok-add_kept.ensures written faults).0)
 
 pub returns-clause-stays : goal.returns-clause-stays
 returns-clause-stays g c =
-    stays_both (option_map (λ (name : _). name.now) c.args.save) _ _ _
+    stays_both (kept_in c.args.keep.now) _ _ _
     (stays_written _ (g.S.Store.contents c.args.store.now) (g.S.Store.reads c.args.store.now) (g.S.Store.writes c.args.store.now)
     (g.O.Sink.written c.args.out.now) (g.O.Sink.written c.write_text.new.out) _ _ c.write_text.ensures.later)
-    (c.save_text.ensures.stays (g.O.Sink.written c.write_text.new.out) (g.O.Sink.faults c.write_text.new.out))
+    (c.add_kept.ensures (g.O.Sink.written c.write_text.new.out) (g.O.Sink.faults c.write_text.new.out)).1
 
 pub returns-clause-police : goal.returns-clause-police
 unfolding done_by

@@ -1,0 +1,10 @@
+use Rattle.std.proofs.Common.{◌≡◌, ◌++◌}
+use Rattle.epic_record.specs.LedgerText.{ledger_text}
+use Rattle.epic_app.specs.Telling.{emitted_between}
+use Rattle.epic_app.proofs.telling.print_emissions.Given as goal
+
+-- the lines so far, and those to come, are all
+abbrev pub invariant-loop-number : goal.invariant-loop-number
+invariant-loop-number l =
+    l.to.items ++ ledger_text (emitted_between l.ledger.history l.number l.until)
+    ≡ l.initial.to.items ++ ledger_text (emitted_between l.ledger.history l.from l.until)
