@@ -1,0 +1,8 @@
+//! What holds of all verdict lines, proved of the definitions alone.
+ghost use Rattle.epic_reread.specs.Rereading.{DestLinesAreReadBack, HopLinesAreReadBack};
+
+/// The line that a run writes of a verdict is read as what the verdict is told as.
+pub fn verdict_lines_are_read_back()
+    ensures hops { HopLinesAreReadBack }
+    ensures dests { DestLinesAreReadBack }
+{}
