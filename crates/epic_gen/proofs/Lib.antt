@@ -3,4 +3,4 @@ pub mod Places
 mod Plain
 mod Printed
 pub mod Read
-mod TagBytes
+pub mod TagBytes
