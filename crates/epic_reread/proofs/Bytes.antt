@@ -39,15 +39,15 @@ digits_above (b ∷ bytes) are =
 
 -- ---- bytes
 
-byte_onto : (b : ℕ) (bytes : List ℕ) → b < 256 → AreBytes bytes → AreBytes (b ∷ bytes)
+pub byte_onto : (b : ℕ) (bytes : List ℕ) → b < 256 → AreBytes bytes → AreBytes (b ∷ bytes)
 byte_onto b bytes low are zero = low
 byte_onto b bytes low are (suc i) = are i
 
-bytes_onto : (xs ys : List ℕ) → AreBytes xs → AreBytes ys → AreBytes (xs ++ ys)
+pub bytes_onto : (xs ys : List ℕ) → AreBytes xs → AreBytes ys → AreBytes (xs ++ ys)
 bytes_onto [] ys are more = more
 bytes_onto (x ∷ xs) ys are more = byte_onto x (xs ++ ys) (are zero) (bytes_onto xs ys (λ i. are (suc i)) more)
 
-are_bytes : (bytes : List ℕ) → IsBytes bytes → AreBytes bytes
+pub are_bytes : (bytes : List ℕ) → IsBytes bytes → AreBytes bytes
 are_bytes [] is i = omega arith
 are_bytes (b ∷ bytes) is i =
     byte_onto b bytes (is 0 0 (omega arith)) (are_bytes bytes (λ k d l. is (suc k) d (omega (arith, l)))) i
@@ -56,7 +56,7 @@ byte_at_is : (k n : ℕ) → byte_at k n < 256
 byte_at_is zero n = omega arith
 byte_at_is (suc k) n = omega arith
 
-high_bytes : (k n : ℕ) → AreBytes (bytes_high_first k n)
+pub high_bytes : (k n : ℕ) → AreBytes (bytes_high_first k n)
 high_bytes zero n i = omega arith
 high_bytes (suc k) n i = byte_onto (byte_at k n) (bytes_high_first k n) (byte_at_is k n) (high_bytes k n) i
 
@@ -78,7 +78,7 @@ bytes_read bytes is =
 
 -- ---- bodies
 
-body_bytes_are : (b : Body) → IsBody b → IsBytes b.link → AreBytes (body_bytes b)
+pub body_bytes_are : (b : Body) → IsBody b → IsBytes b.link → AreBytes (body_bytes b)
 unfolding body_bytes u16_bytes u32_bytes
 body_bytes_are b is link =
     let out = u16_bytes b.out ++ b.link in

@@ -1,7 +1,10 @@
 mod Bytes
 mod Clean
 mod Forms
+mod PacketBytes
 mod Printed
 mod Readings
+mod RunVerdicts
+mod TagsAreBytes
 mod Texts
 mod WholeLines

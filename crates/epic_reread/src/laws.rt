@@ -1,8 +1,14 @@
 //! What holds of all verdict lines, proved of the definitions alone.
+ghost use Rattle.epic_reread.specs.Fitting.{VerdictsCanBeTold};
 ghost use Rattle.epic_reread.specs.Rereading.{DestLinesAreReadBack, HopLinesAreReadBack};
 
 /// The line that a run writes of a verdict is read as what the verdict is told as.
 pub fn verdict_lines_are_read_back()
     ensures hops { HopLinesAreReadBack }
     ensures dests { DestLinesAreReadBack }
+{}
+
+/// What a verdict is told as is in range and can be named, where the verdict is one of a packet in a topology.
+pub fn run_verdicts_can_be_told()
+    ensures { VerdictsCanBeTold }
 {}

@@ -1,0 +1,53 @@
+-- The verdicts of a run can be told.
+use Rattle.std.specs.Prelude.{◌<◌, ◌^◌, IsTrue, ⊤}
+use Rattle.epic_num.specs.declared.hop.HopName.{HopName}
+use Rattle.epic_num.specs.declared.key_name.KeyName.{KeyName}
+use Rattle.epic_num.specs.declared.key_name.KeyName.TheVariants as keys
+use Rattle.epic_num.specs.declared.verdict.Verdict.{Verdict}
+use Rattle.epic_num.specs.declared.verdict.Verdict.TheVariants.{Proved, Unclaimed, Opened, Forged, Collided}
+use Rattle.epic_num.specs.Bodies.{IsBody}
+use Rattle.epic_num.specs.Messages.{IsHost}
+use Rattle.epic_layout.specs.Contents.{Contents, HoldsBytes, IsBytes, IsPacket}
+use Rattle.epic_topo.specs.Lawful.{IsTopology}
+use Rattle.epic_topo.specs.Network.{Network, has}
+use Rattle.epic_text.specs.VerdictText.{IsTellable}
+use Rattle.epic_judging.specs.Telling.{told_of}
+use Rattle.epic_reread.specs.Rereading.{CanBeTold}
+
+-- ---- the parts of a verdict fit their types
+
+abbrev pub KeyFits : KeyName → Type 0
+KeyFits (keys.Fwd a g) = g < 2 ^ 32
+KeyFits (keys.Field a src epoch) = IsHost src × (epoch < 2 ^ 64)
+KeyFits (keys.Dest dst src epoch) = IsHost dst × IsHost src × (epoch < 2 ^ 64)
+
+pub record HopFits (x : HopName) : Type 0 where
+  pub generation : x.generation < 2 ^ 32
+  pub body : IsBody x.body
+  pub link : IsBytes x.body.link
+
+unfoldable pub Fits : Verdict → Type 0
+Fits (Proved issue send) = (issue < 2 ^ 32) × (send < 2 ^ 32)
+Fits Unclaimed = ⊤
+Fits (Opened step) = step < 2 ^ 32
+Fits (Forged r) = KeyFits r.key
+Fits (Collided c) = HopFits c.left × HopFits c.right
+
+-- the hop that the ledger has in place of the packet's is one of the topology's; `IsTellable` asks it of the packet's
+abbrev pub OtherIsThere : Network → Verdict → Type 0
+OtherIsThere t (Collided c) = IsTrue (has t c.right.asn)
+OtherIsThere t verdict = ⊤
+
+-- a verdict that is told of a packet
+pub record IsOfRun (t : Network) (p : Contents) (verdict : Verdict) : Type 0 where
+  pub topology : IsTopology t
+  pub packet : IsPacket p
+  pub bytes : HoldsBytes p
+  pub tellable : IsTellable t p verdict
+  pub fits : Fits verdict
+  pub other_there : OtherIsThere t verdict
+
+-- ---- the law
+
+abbrev pub VerdictsCanBeTold : Type 0
+VerdictsCanBeTold = (t : Network) (p : Contents) (verdict : Verdict) → IsOfRun t p verdict → CanBeTold (told_of t p verdict)
