@@ -35,7 +35,7 @@ pub next_above : (low c : ℕ) (cs : List ℕ) → above low c ≡ true → IsAb
 next_above low c cs h k = and_from (above low c) (list_all (above low) cs) h k
 
 -- the mark is none of them
-unmarked : (mark low : ℕ) → mark < low → (bytes : List ℕ) → IsAbove low bytes → All (λ c. (c == mark) ≡ false) bytes
+pub unmarked : (mark low : ℕ) → mark < low → (bytes : List ℕ) → IsAbove low bytes → All (λ c. (c == mark) ≡ false) bytes
 unmarked mark low l [] h = All-nil (λ c. (c == mark) ≡ false)
 unmarked mark low l (c ∷ cs) h =
     let p = and_parts (above low c) (list_all (above low) cs) h in

@@ -7,4 +7,5 @@ mod Readings
 mod RunVerdicts
 mod TagsAreBytes
 mod Texts
+mod WholeFiles
 mod WholeLines

@@ -32,12 +32,12 @@ use Rattle.epic_reread.proofs.Forms.{forged_as, told_words}
 use Rattle.epic_reread.proofs.WholeLines.{dest_line_read, hop_line_read}
 
 -- two lists of words, neither of them empty, have one text
-record IsSame (xs ys : List (List ℕ)) : Type 0 where
+pub record IsSame (xs ys : List (List ℕ)) : Type 0 where
   pub text : words_text xs ≡ words_text ys
   pub some : 0 < length xs
   pub other : 0 < length ys
 
-next : (word : List ℕ) (xs ys : List (List ℕ)) → IsSame xs ys → IsSame (word ∷ xs) (word ∷ ys)
+pub next : (word : List ℕ) (xs ys : List (List ℕ)) → IsSame xs ys → IsSame (word ∷ xs) (word ∷ ys)
 next word [] ys s = absurd (omega (arith, s.some))
 next word (x ∷ xs) [] s = absurd (omega (arith, s.other))
 next word (x ∷ xs) (y ∷ ys) s = record {
@@ -108,7 +108,7 @@ collided_same t p c =
       other = omega arith;
     }
 
-verdict_same : (t : Network) (p : Contents) (v : Verdict) → IsSame (verdict_words t p v) (told_words (told_of t p v))
+pub verdict_same : (t : Network) (p : Contents) (v : Verdict) → IsSame (verdict_words t p v) (told_words (told_of t p v))
 unfolding verdict_words told_of forged_words
 verdict_same t p (Proved issue send) = equal (proved_words issue send) (proved_told issue send) (proved_same issue send)
 verdict_same t p Unclaimed = equal (codes "unclaimed" ∷ []) told.Unclaimed refl

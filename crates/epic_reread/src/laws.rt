@@ -1,6 +1,7 @@
 //! What holds of all verdict lines, proved of the definitions alone.
 ghost use Rattle.epic_reread.specs.Fitting.{VerdictsCanBeTold};
 ghost use Rattle.epic_reread.specs.Rereading.{DestLinesAreReadBack, HopLinesAreReadBack};
+ghost use Rattle.epic_reread.specs.WholeFile.{VerdictFilesAreReadBack};
 
 /// The line that a run writes of a verdict is read as what the verdict is told as.
 pub fn verdict_lines_are_read_back()
@@ -11,4 +12,9 @@ pub fn verdict_lines_are_read_back()
 /// What a verdict is told as is in range and can be named, where the verdict is one of a packet in a topology.
 pub fn run_verdicts_can_be_told()
     ensures { VerdictsCanBeTold }
+{}
+
+/// The verdict file that a run writes is read as what its verdicts are told as, where it is within the limit.
+pub fn verdict_files_are_read_back()
+    ensures { VerdictFilesAreReadBack }
 {}

@@ -3,4 +3,6 @@
 
 mod laws;
 
-pub use laws::{run_verdicts_can_be_told, verdict_lines_are_read_back};
+pub use laws::{
+    run_verdicts_can_be_told, verdict_files_are_read_back, verdict_lines_are_read_back,
+};
