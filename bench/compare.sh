@@ -1,13 +1,14 @@
 #!/usr/bin/env bash
-# Times the proved cipher, its tags, turns, arrivals, sends and replay windows against C and, where it is there, OpenSSL:
+# Times the proved cipher, its tags, turns, arrivals, sends, replay windows and a policer against C and, where it is there, OpenSSL:
 # `bench/compare.sh [RUNS]`. All programs run in turn, each many short times; the least time of each is taken, and ratios are
-# printed, with "ours" as LLVM builds it (more than 1: ours is faster) and "the other build" by Rattle's own compiler. Nothing
-# else should run on the machine. PEER=PROGRAM names a program without proofs that prints these lines (T: nanoseconds):
+# printed, with "ours" as LLVM builds it (more than 1: ours is faster) and "the other build" by Rattle's own compiler. Works
+# that take long have a tenth of the runs. Nothing else should run on the machine. PEER=PROGRAM names a program without proofs that prints these lines (T: nanoseconds):
 #   `router turns per second, level L, .. hop 1 N (T ns) ..` for L = 0 to 3, of 20,000 packets each;
 #   `arrival of level 3 over 8 hops: N per second (T ns)`, of 20,000 packets;
 #   `send of level 3 over 8 hops, ..: N per second (T ns)`, of 20,000 packets, each a step of its world that keeps what is sent;
-#   `window, offers with some N live entries of one AS: T ns` for N = 1, 100 and 4096, of 200,000 offers each.
-# Without it turns, arrivals, sends and windows are compared with the other build alone.
+#   `window, offers with some N live entries of one AS: T ns` for N = 1, 100 and 4096, of 200,000 offers each;
+#   `policer, 10,000,000 offers of 4,096 sources: S s`, S in seconds.
+# Without it turns, arrivals, sends, windows and the policer are compared with the other build alone.
 set -u
 root=$(cd "$(dirname "${BASH_SOURCE[0]}")/.." && pwd) || exit 2
 crate=$root/crates/epic_bench
@@ -19,8 +20,9 @@ trap 'rm -rf "$room"' EXIT
 declare -A rounds=([aes]=600 [cmac]=400 [short]=8000)
 # These have as many packets or offers as the peer's.
 rounds+=([turn0]=20000 [turn1]=20000 [turn2]=20000 [turn3]=20000 [arrive3]=20000 [send3]=20000)
-rounds+=([window-1]=200000 [window-100]=200000 [window-4096]=200000)
-works=(aes cmac short turn0 turn1 turn2 turn3 arrive3 send3 window-1 window-100 window-4096)
+rounds+=([window-1]=200000 [window-100]=200000 [window-4096]=200000 [police]=10000000)
+works=(aes cmac short turn0 turn1 turn2 turn3 arrive3 send3 window-1 window-100 window-4096 police)
+long=" police "
 names=()
 
 build() { # NAME, and rt's words: proves and builds the program
@@ -40,9 +42,9 @@ else
   echo "$cc: not there, skipped"
 fi
 
-# The C program has no turns, arrivals, sends or windows.
+# The C program has the cipher and its tags alone.
 for name in "${names[@]}"; do
-  if [ "$name" = c ]; then skipped='turn\|arrive\|send\|window-'; else skipped='none '; fi
+  if [ "$name" = c ]; then skipped='turn\|arrive\|send\|window-\|police'; else skipped='none '; fi
   if ! "$room/$name" digests 3 | cmp -s - <(grep -v "^\($skipped\)" "$crate/stdout"); then
     echo "$name: wrong digests"
     exit 1
@@ -51,8 +53,9 @@ done
 
 for ((i = 0; i < runs; i++)); do
   for work in "${works[@]}"; do
+    if ((i % 10)) && [[ $long == *" $work "* ]]; then continue; fi
     for name in "${names[@]}"; do
-      case "$name $work" in "c turn"* | "c arrive"* | "c send"* | "c window-"*) continue ;; esac
+      case "$name $work" in "c turn"* | "c arrive"* | "c send"* | "c window-"* | "c police") continue ;; esac
       "$room/$name" "$work" "${rounds[$work]}" | awk -v name="$name" '{ print name, $1, $(NF - 1) }' >>"$room/times"
     done
   done
@@ -65,7 +68,9 @@ if [ -n "${PEER:-}" ]; then
       -e 's/^router turns per second, level \([0-3]\),.* hop 1 [0-9]* (\([0-9]*\) ns).*$/peer turn\1 \2/p' \
       -e 's/^arrival of level \([0-3]\) over 8 hops: [0-9]* per second (\([0-9]*\) ns)$/peer arrive\1 \2/p' \
       -e 's/^send of level \([0-3]\) over 8 hops,.*: [0-9]* per second (\([0-9]*\) ns)$/peer send\1 \2/p' \
-      -e 's/^window, offers with some \([0-9]*\) live entries of one AS: \([0-9]*\) ns$/peer window-\1 \2/p' >>"$room/times"
+      -e 's/^window, offers with some \([0-9]*\) live entries of one AS: \([0-9]*\) ns$/peer window-\1 \2/p' \
+      -e 's/^policer, 10,000,000 offers of 4,096 sources: \([0-9.]*\) s$/peer police \1/p' |
+      awk '$2 == "police" { $3 *= 100 } { print }' >>"$room/times"
   done
 fi
 
@@ -108,6 +113,7 @@ awk '
     show("an offer at 1 live packet, the peer to ours", "window-1", "peer", " (goal 1.0)")
     show("an offer at 100 live packets, the peer to ours", "window-100", "peer", " (goal 1.0)")
     show("an offer at 4,096 live packets, the peer to ours", "window-4096", "peer", " (goal 1.0)")
+    show("an offer to a policer, the peer to ours", "police", "peer", " (goal 0.5)")
     show("a block in a chain, the other build to ours", "aes", "rattle", "")
     show("a tag of 1500 bytes, the other build to ours", "cmac", "rattle", "")
     show("a tag of 27 bytes, the other build to ours", "short", "rattle", "")
@@ -118,5 +124,6 @@ awk '
     show("an offer at 1 live packet, the other build to ours", "window-1", "rattle", "")
     show("an offer at 100 live packets, the other build to ours", "window-100", "rattle", "")
     show("an offer at 4,096 live packets, the other build to ours", "window-4096", "rattle", "")
+    show("an offer to a policer, the other build to ours", "police", "rattle", "")
   }
 ' "$room/times"

@@ -1,3 +1,4 @@
+mod Charging
 mod Iterated
 mod Numbers
 mod Offering

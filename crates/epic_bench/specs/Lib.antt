@@ -2,6 +2,7 @@ pub mod Routed
 pub mod Arrived
 pub mod Sends
 pub mod Offers
+pub mod Policing
 pub mod Works
 pub mod Tasks
 pub mod Lines

@@ -4,7 +4,7 @@ use Rattle.std.specs.Option.{option_map, option_and_then}
 use Rattle.epic_num.specs.Names.{number_within}
 use Rattle.epic_bench.specs.declared.work.Load.TheVariants.{One, Hundred, Thousands}
 use Rattle.epic_bench.specs.declared.work.Work.{Work}
-use Rattle.epic_bench.specs.declared.work.Work.TheVariants.{Aes, Cmac, Short, Routed, Arrived, Sends, Window}
+use Rattle.epic_bench.specs.declared.work.Work.TheVariants.{Aes, Cmac, Short, Routed, Arrived, Sends, Window, Policing}
 use Rattle.epic_num.specs.declared.hop.Level.TheVariants.{L0, L1, L2, L3}
 use Rattle.epic_bench.specs.declared.words.Request.{Request}
 use Rattle.epic_bench.specs.declared.words.Request.TheVariants.{Time, Digests}
@@ -32,6 +32,7 @@ work_of word =
     else if bytes_eq word (codes "window-1") then Some (Window One)
     else if bytes_eq word (codes "window-100") then Some (Window Hundred)
     else if bytes_eq word (codes "window-4096") then Some (Window Thousands)
+    else if bytes_eq word (codes "police") then Some Policing
     else None
 
 -- `digests`, or the name of a work

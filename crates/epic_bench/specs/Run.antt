@@ -8,7 +8,7 @@ use Rattle.epic_bench.specs.declared.words.Request.{Request}
 use Rattle.epic_bench.specs.declared.words.Request.TheVariants.{Time, Digests}
 use Rattle.epic_bench.specs.declared.work.Load.TheVariants.{One, Hundred, Thousands}
 use Rattle.epic_bench.specs.declared.work.Work.{Work}
-use Rattle.epic_bench.specs.declared.work.Work.TheVariants.{Aes, Cmac, Short, Routed, Arrived, Sends, Window}
+use Rattle.epic_bench.specs.declared.work.Work.TheVariants.{Aes, Cmac, Short, Routed, Arrived, Sends, Window, Policing}
 use Rattle.epic_num.specs.declared.hop.Level.TheVariants.{L0, L1, L2, L3}
 use Rattle.epic_bench.specs.Lines.{◌⊕◌, IsLine, IsTimedLine}
 
@@ -26,6 +26,7 @@ pub record AreLines (rounds : ℕ) (text : List ℕ) : Type 0 where
   pub one : List ℕ
   pub hundred : List ℕ
   pub thousands : List ℕ
+  pub police : List ℕ
   pub is_aes : IsLine Aes rounds aes
   pub is_cmac : IsLine Cmac rounds cmac
   pub is_short : IsLine Short rounds short
@@ -38,7 +39,8 @@ pub record AreLines (rounds : ℕ) (text : List ℕ) : Type 0 where
   pub is_one : IsLine (Window One) rounds one
   pub is_hundred : IsLine (Window Hundred) rounds hundred
   pub is_thousands : IsLine (Window Thousands) rounds thousands
-  pub joined : text ≡ aes ⊕ (cmac ⊕ (short ⊕ (level_0 ⊕ (level_1 ⊕ (level_2 ⊕ (level_3 ⊕ (arrival ⊕ (send ⊕ (one ⊕ (hundred ⊕ thousands))))))))))
+  pub is_police : IsLine Policing rounds police
+  pub joined : text ≡ aes ⊕ (cmac ⊕ (short ⊕ (level_0 ⊕ (level_1 ⊕ (level_2 ⊕ (level_3 ⊕ (arrival ⊕ (send ⊕ (one ⊕ (hundred ⊕ (thousands ⊕ police)))))))))))
 
 -- the text that a request asks for
 abbrev pub IsTextOf : Request → List ℕ → Type 0
@@ -71,6 +73,7 @@ IsOfPackets (Routed level) = Unit {0}
 IsOfPackets Arrived = Unit {0}
 IsOfPackets Sends = Unit {0}
 IsOfPackets (Window load) = ⊥
+IsOfPackets Policing = ⊥
 
 -- why a work couldn't be made ready
 abbrev pub IsUnready : Work → End → Type 0

@@ -2,7 +2,7 @@
 use Rattle.epic_bench.specs.declared.work.Task.{Task}
 use Rattle.epic_bench.specs.declared.work.Task.TheVariants as task
 use Rattle.epic_bench.specs.declared.work.Work.{Work}
-use Rattle.epic_bench.specs.declared.work.Work.TheVariants.{Aes, Cmac, Short, Routed, Arrived, Sends, Window}
+use Rattle.epic_bench.specs.declared.work.Work.TheVariants.{Aes, Cmac, Short, Routed, Arrived, Sends, Window, Policing}
 
 -- what a task is of
 abbrev pub work_of_task : Task → Work
@@ -13,3 +13,4 @@ work_of_task (task.Routed level routed) = Routed level
 work_of_task (task.Arrived arrived) = Arrived
 work_of_task (task.Sends sends) = Sends
 work_of_task (task.Window load) = Window load
+work_of_task task.Policing = Policing

@@ -8,10 +8,11 @@ use Rattle.epic_cmac.specs.Cmac.{cmac}
 use Rattle.epic_bench.specs.declared.work.TheConstants.{KEY}
 use Rattle.epic_bench.specs.declared.work.Load.TheVariants.{One, Hundred, Thousands}
 use Rattle.epic_bench.specs.declared.work.Work.{Work}
-use Rattle.epic_bench.specs.declared.work.Work.TheVariants.{Aes, Cmac, Short, Routed, Arrived, Sends, Window}
+use Rattle.epic_bench.specs.declared.work.Work.TheVariants.{Aes, Cmac, Short, Routed, Arrived, Sends, Window, Policing}
 use Rattle.epic_num.specs.declared.hop.Level.TheVariants.{L0, L1, L2, L3}
 use Rattle.epic_bench.specs.Arrived.{IsArrivedDigest}
 use Rattle.epic_bench.specs.Offers.{offers_digest}
+use Rattle.epic_bench.specs.Policing.{policed_digest}
 use Rattle.epic_bench.specs.Routed.{IsRoutedDigest}
 use Rattle.epic_bench.specs.Sends.{IsSentDigest}
 
@@ -37,6 +38,7 @@ IsDigest (Routed level) rounds digest = IsRoutedDigest rounds digest
 IsDigest Arrived rounds digest = IsArrivedDigest rounds digest
 IsDigest Sends rounds digest = IsSentDigest rounds digest
 IsDigest (Window load) rounds digest = digest ≡ offers_digest load rounds
+IsDigest Policing rounds digest = digest ≡ policed_digest rounds
 
 -- how many operations a round has
 abbrev pub operations_a_round : Work → ℕ
@@ -47,6 +49,7 @@ operations_a_round (Routed level) = 1
 operations_a_round Arrived = 1
 operations_a_round Sends = 1
 operations_a_round (Window load) = 1
+operations_a_round Policing = 1
 
 abbrev pub operations : Work → ℕ → ℕ
 operations work rounds = operations_a_round work * rounds
@@ -65,6 +68,7 @@ name_of Sends = codes "send3"
 name_of (Window One) = codes "window-1"
 name_of (Window Hundred) = codes "window-100"
 name_of (Window Thousands) = codes "window-4096"
+name_of Policing = codes "police"
 
 -- what its operations are called
 abbrev pub unit_of : Work → List ℕ
@@ -75,3 +79,4 @@ unit_of (Routed level) = codes "turns"
 unit_of Arrived = codes "arrivals"
 unit_of Sends = codes "sends"
 unit_of (Window load) = codes "offers"
+unit_of Policing = codes "offers"

@@ -1,9 +1,10 @@
-//! Measures the cipher, its tags, turns of routers, arrivals at a host, sends, and offers to a replay window.
+//! Measures the cipher, its tags, turns of routers, arrivals at a host, sends, and offers to a replay window and to a policer.
 #![tactic(auto)]
 
 mod arrived;
 mod digests;
 mod offers;
+mod policing;
 mod report;
 mod routed;
 mod sends;

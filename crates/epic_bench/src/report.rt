@@ -72,7 +72,8 @@ fn digest_lines(alloc: Global, rounds: u32) -> Result<String, End>
     let one = digest_line(alloc, Work::Window(Load::One), rounds)?;
     let hundred = digest_line(alloc, Work::Window(Load::Hundred), rounds)?;
     let thousands = digest_line(alloc, Work::Window(Load::Thousands), rounds)?;
-    let windows = format!(in alloc; "{one}{hundred}{thousands}")?;
+    let police = digest_line(alloc, Work::Policing, rounds)?;
+    let windows = format!(in alloc; "{one}{hundred}{thousands}{police}")?;
     let ends = format!(in alloc; "{arrival}{send}{windows}")?;
     let levels = format!(in alloc; "{level_0}{level_1}{level_2}{level_3}{ends}")?;
     Ok(format!(in alloc; "{aes}{cmac}{short}{levels}")?)

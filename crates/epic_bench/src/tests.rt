@@ -83,6 +83,10 @@ fn prints_times(rt: HostRuntime) -> Result<(), Fail> {
             ["window-4096", "2"],
             "window-4096 2 offers e4eb03bb450921fe451ad63b0e2b379a 500000.0 ns\n",
         ),
+        (
+            ["police", "2"],
+            "police 2 offers e4eb03bb450921fe451ad63b0e2b379a 500000.0 ns\n",
+        ),
     ] {
         check_run(&rt, rt.alloc(), &words, true, 0, (0, text, ""))?;
     }

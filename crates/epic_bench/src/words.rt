@@ -51,6 +51,7 @@ fn work(word: &str) -> Option<Work>
         "window-1" => Some(Work::Window(Load::One)),
         "window-100" => Some(Work::Window(Load::Hundred)),
         "window-4096" => Some(Work::Window(Load::Thousands)),
+        "police" => Some(Work::Policing),
         _ => None,
     }
 }

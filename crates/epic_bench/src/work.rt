@@ -11,6 +11,7 @@ ghost use Rattle.epic_bench.specs.Works.{IsDigest, chained, message, name_of, op
 
 use crate::arrived::Arrived;
 use crate::offers::offer_rounds;
+use crate::policing::police_rounds;
 use crate::routed::Routed;
 use crate::sends::Sends;
 use crate::top::End;
@@ -36,6 +37,8 @@ pub(crate) enum Work {
     Sends,
     /// Offers of new packets to a replay window.
     Window(Load),
+    /// Offers of packets of 4,096 sources to a policer.
+    Policing,
 }
 
 /// About how many packets of their AS are live in a window that they are offered to.
@@ -70,6 +73,7 @@ impl Work {
             Work::Window(Load::One) => "window-1",
             Work::Window(Load::Hundred) => "window-100",
             Work::Window(Load::Thousands) => "window-4096",
+            Work::Policing => "police",
         }
     }
 
@@ -83,7 +87,7 @@ impl Work {
             Work::Routed(_) => "turns",
             Work::Arrived => "arrivals",
             Work::Sends => "sends",
-            Work::Window(_) => "offers",
+            Work::Window(_) | Work::Policing => "offers",
         }
     }
 
@@ -94,7 +98,7 @@ impl Work {
         let each = match self {
             Work::Aes => 64,
             Work::Cmac | Work::Short | Work::Routed(_) => 1,
-            Work::Arrived | Work::Sends | Work::Window(_) => 1,
+            Work::Arrived | Work::Sends | Work::Window(_) | Work::Policing => 1,
         };
         each * u64::from(rounds)
     }
@@ -168,6 +172,7 @@ pub(crate) enum Task {
     Arrived(Arrived),
     Sends(Sends),
     Window(Load),
+    Policing,
 }
 
 impl Task {
@@ -184,6 +189,7 @@ impl Task {
             Work::Arrived => Ok(Task::Arrived(Arrived::new(alloc, rounds)?)),
             Work::Sends => Ok(Task::Sends(Sends::new(alloc)?)),
             Work::Window(load) => Ok(Task::Window(load)),
+            Work::Policing => Ok(Task::Policing),
         }
     }
 
@@ -200,6 +206,7 @@ impl Task {
             Task::Arrived(arrived) => arrived.run(rounds),
             Task::Sends(sends) => sends.run(alloc, rounds),
             Task::Window(load) => offer_rounds(alloc, *load, rounds),
+            Task::Policing => police_rounds(alloc, rounds),
         }
     }
 }
