@@ -1,6 +1,7 @@
 mod Bytes
 mod Clean
 mod Forms
+mod HeldVerdicts
 mod PacketBytes
 mod Printed
 mod Readings

@@ -55,10 +55,13 @@ named_hop t x ok there fits = record { asn = names_readable t ok x.asn there; ge
 quotient_le : (n base : ℕ) → 1 ≤ base → n / base ≤ n
 quotient_le n base b = omega (arith, mul-le-mul_left (n / base) b, div-add-mod' n base)
 
+pub epoch_fits : (t : Network) (p : Contents) → IsTopology t → IsPacket p → epoch_of t.profile p.ts < 2 ^ 64
+unfolding epoch_of
+epoch_fits t p ok is = omega (arith, is.ts, quotient_le p.ts t.profile.epoch_us (omega (arith, ok.settings.some_epoch)))
+
 field_key_named : (t : Network) (a : AsId) (p : Contents) → IsTopology t → IsPacket p → IsTrue (has t a) → IsFieldKey (Some (field_name t a p))
-unfolding field_name epoch_of
-field_key_named t a p ok is there =
-    (names_readable t ok a there, source p.src is.src, omega (arith, is.ts, quotient_le p.ts t.profile.epoch_us (omega (arith, ok.settings.some_epoch))))
+unfolding field_name
+field_key_named t a p ok is there = (names_readable t ok a there, source p.src is.src, epoch_fits t p ok is)
 
 -- ---- forgeries
 

@@ -37,7 +37,7 @@ dropped zero bytes h = h
 dropped (suc n) [] h = λ i. omega arith
 dropped (suc n) (b ∷ bytes) h = dropped n bytes (λ j. h (suc j))
 
-zeros : (n : ℕ) → AreBytes (replicate n 0)
+pub zeros : (n : ℕ) → AreBytes (replicate n 0)
 zeros zero i = omega arith
 zeros (suc n) i = byte_onto 0 (replicate n 0) (omega arith) (zeros n) i
 

@@ -1,5 +1,5 @@
 -- The verdicts of a run can be told.
-use Rattle.std.specs.Prelude.{◌<◌, ◌^◌, IsTrue, ⊤}
+use Rattle.std.specs.Prelude.{◌<◌, ◌^◌, All, IsTrue, length, ⊤}
 use Rattle.epic_num.specs.declared.hop.HopName.{HopName}
 use Rattle.epic_num.specs.declared.key_name.KeyName.{KeyName}
 use Rattle.epic_num.specs.declared.key_name.KeyName.TheVariants as keys
@@ -7,9 +7,11 @@ use Rattle.epic_num.specs.declared.verdict.Verdict.{Verdict}
 use Rattle.epic_num.specs.declared.verdict.Verdict.TheVariants.{Proved, Unclaimed, Opened, Forged, Collided}
 use Rattle.epic_num.specs.Bodies.{IsBody}
 use Rattle.epic_num.specs.Messages.{IsHost}
-use Rattle.epic_layout.specs.Contents.{Contents, HoldsBytes, IsBytes, IsPacket}
+use Rattle.epic_layout.specs.Contents.{Contents, HoldsBytes, IsBytes, IsPacket, hop_count}
 use Rattle.epic_topo.specs.Lawful.{IsTopology}
 use Rattle.epic_topo.specs.Network.{Network, has}
+use Rattle.epic_ledger.specs.Facts.{Facts, pass_name}
+use Rattle.epic_audit.specs.Holds.{Holds, Subject, AtDest, AtHop}
 use Rattle.epic_text.specs.VerdictText.{IsTellable}
 use Rattle.epic_judging.specs.Telling.{told_of}
 use Rattle.epic_reread.specs.Rereading.{CanBeTold}
@@ -51,3 +53,26 @@ pub record IsOfRun (t : Network) (p : Contents) (verdict : Verdict) : Type 0 whe
 
 abbrev pub VerdictsCanBeTold : Type 0
 VerdictsCanBeTold = (t : Network) (p : Contents) (verdict : Verdict) → IsOfRun t p verdict → CanBeTold (told_of t p verdict)
+
+-- ---- verdicts that hold
+
+-- the parts of a ledger fit their types
+pub record LedgerFits (f : Facts) : Type 0 where
+  pub few_issues : length f.issues < 2 ^ 32
+  pub issues : All (λ i. HopFits i.name) f.issues
+  pub sends : All (λ s. s.emission < 2 ^ 32) f.sends
+  pub passes : All (λ w. HopFits (pass_name w)) f.passes
+  pub reveals : All (λ r. r.step < 2 ^ 32) f.reveals
+
+-- the subject is one of the packet
+abbrev pub IsSubjectOf : Contents → Subject → Type 0
+IsSubjectOf p (AtHop a generation hop) = (generation < 2 ^ 32) × (hop < hop_count p)
+IsSubjectOf p AtDest = ⊤
+
+-- whoever gave the verdict
+abbrev pub HeldVerdictsFit : Type 0
+HeldVerdictsFit =
+    (t : Network) (f : Facts) (p : Contents) (subject : Subject) (verdict : Verdict)
+    → IsTopology t → IsPacket p → HoldsBytes p → LedgerFits f → IsSubjectOf p subject
+    → Holds t f p subject verdict
+    → Fits verdict

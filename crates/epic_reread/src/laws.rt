@@ -1,5 +1,5 @@
 //! What holds of all verdict lines, proved of the definitions alone.
-ghost use Rattle.epic_reread.specs.Fitting.{VerdictsCanBeTold};
+ghost use Rattle.epic_reread.specs.Fitting.{HeldVerdictsFit, VerdictsCanBeTold};
 ghost use Rattle.epic_reread.specs.Rereading.{DestLinesAreReadBack, HopLinesAreReadBack};
 ghost use Rattle.epic_reread.specs.WholeFile.{VerdictFilesAreReadBack};
 
@@ -17,4 +17,9 @@ pub fn run_verdicts_can_be_told()
 /// The verdict file that a run writes is read as what its verdicts are told as, where it is within the limit.
 pub fn verdict_files_are_read_back()
     ensures { VerdictFilesAreReadBack }
+{}
+
+/// The parts of a verdict that holds fit their types, where those of the ledger do.
+pub fn held_verdicts_fit()
+    ensures { HeldVerdictsFit }
 {}

@@ -4,5 +4,6 @@
 mod laws;
 
 pub use laws::{
-    run_verdicts_can_be_told, verdict_files_are_read_back, verdict_lines_are_read_back,
+    held_verdicts_fit, run_verdicts_can_be_told, verdict_files_are_read_back,
+    verdict_lines_are_read_back,
 };
