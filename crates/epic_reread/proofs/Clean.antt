@@ -18,7 +18,7 @@ IsAbove low bytes = list_all (above low) bytes ≡ true
 lower_too : (low high c : ℕ) → low ≤ high → above high c ≡ true → above low c ≡ true
 lower_too low high c l h = grind (arith, common_steps)
 
-other : (mark low c : ℕ) → mark < low → above low c ≡ true → (c == mark) ≡ false
+pub other : (mark low c : ℕ) → mark < low → above low c ≡ true → (c == mark) ≡ false
 other mark low c l h = grind (arith, common_steps)
 
 pub weaker : (low high : ℕ) (bytes : List ℕ) → low ≤ high → IsAbove high bytes → IsAbove low bytes

@@ -2,6 +2,8 @@ mod Bytes
 mod Clean
 mod Forms
 mod HeldVerdicts
+mod LedgerForms
+mod LedgerWords
 mod PacketBytes
 mod Printed
 mod Readings

@@ -15,7 +15,7 @@ use Rattle.epic_reread.proofs.Forms.{told_above, told_read, told_words}
 use Rattle.epic_reread.proofs.Readings.{number_read}
 use Rattle.epic_reread.proofs.Texts.{decimal_above}
 
-words_above : (words : List (List ℕ)) → AreAbove 44 words → IsAbove 32 (words_text words)
+pub words_above : (words : List (List ℕ)) → AreAbove 44 words → IsAbove 32 (words_text words)
 words_above words h = joined_above 32 32 refl words (all_weaker 32 44 words (omega arith) h)
 
 line_told : (by : List (List ℕ) → Result Told FileKind) (word : List ℕ) (words : List (List ℕ)) → AreAbove 44 (word ∷ words)

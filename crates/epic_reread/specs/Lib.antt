@@ -1,3 +1,4 @@
 pub mod Fitting
+pub mod LedgerRereading
 pub mod Rereading
 pub mod WholeFile

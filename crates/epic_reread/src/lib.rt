@@ -1,9 +1,11 @@
-//! What a run says of an acceptance is what the judge reads: laws alone.
+//! What a run writes into its ledger file and its verdict file is what the judge reads: laws alone.
 #![tactic(auto)]
 
 mod laws;
+mod ledger_laws;
 
 pub use laws::{
     held_verdicts_fit, run_verdicts_can_be_told, verdict_files_are_read_back,
     verdict_lines_are_read_back,
 };
+pub use ledger_laws::items_are_read_back;

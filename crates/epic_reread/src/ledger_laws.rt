@@ -1,0 +1,7 @@
+//! What holds of all ledger files, proved of the definitions alone.
+ghost use Rattle.epic_reread.specs.LedgerRereading.{ItemsAreReadBack};
+
+/// The line that a run writes of an event, an emission or an acceptance is read as that.
+pub fn items_are_read_back()
+    ensures { ItemsAreReadBack }
+{}
