@@ -2,6 +2,7 @@ mod Bytes
 mod Clean
 mod Forms
 mod HeldVerdicts
+mod LedgerFiles
 mod LedgerForms
 mod LedgerWords
 mod PacketBytes

@@ -29,7 +29,7 @@ onto_parts part [] h = absurd (omega (arith, h))
 onto_parts part (word ∷ more) h = refl
 
 -- a line and its line feed are the first part
-first_part : (line rest : List ℕ) → IsAbove 32 line → parts ((line ++ (10 ∷ [])) ++ rest) ≡ line ∷ parts rest
+pub first_part : (line rest : List ℕ) → IsAbove 32 line → parts ((line ++ (10 ∷ [])) ++ rest) ≡ line ∷ parts rest
 first_part line rest plain =
     ap (λ text. without_empty_last (slice_split is_line_feed text)) (append_assoc line (10 ∷ []) rest)
     ∙ ap without_empty_last (slice_split_at is_line_feed line 10 rest (unmarked 10 32 (omega arith) line plain) refl)

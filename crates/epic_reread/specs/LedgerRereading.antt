@@ -1,5 +1,5 @@
 -- The ledger file that a run writes is read as what its lines were written of.
-use Rattle.std.specs.Prelude.{◌≡◌, ℕ, ◌<◌, ◌≤◌, ◌^◌, List, [], ◌∷◌, ◌++◌, length, Ok}
+use Rattle.std.specs.Prelude.{◌≡◌, ℕ, ◌<◌, ◌≤◌, ◌^◌, List, [], ◌∷◌, ◌++◌, length, IsTrue, Ok, ⊤}
 use Rattle.std.specs.List.{All}
 use Rattle.epic_num.specs.declared.key_name.Holder.{Holder}
 use Rattle.epic_num.specs.declared.key_name.Holder.TheVariants as holder
@@ -7,12 +7,14 @@ use Rattle.epic_num.specs.declared.passed.Place.{Place}
 use Rattle.epic_num.specs.declared.passed.Place.TheVariants as place
 use Rattle.epic_num.specs.Names.{IsHostFrom, IsReadable, IsReadableHost}
 use Rattle.epic_layout.specs.Contents.{IsBytes}
+use Rattle.epic_topo.specs.Network.{Network}
 use Rattle.epic_ledger.specs.declared.event.Event.{Event}
 use Rattle.epic_ledger.specs.declared.event.Event.TheVariants as event
 use Rattle.epic_record.specs.declared.item.Item.{Item}
 use Rattle.epic_record.specs.declared.item.Item.TheVariants as items
+use Rattle.epic_record.specs.LedgerFile.{history_in, is_placed, ledger_file, most_ledger}
 use Rattle.epic_record.specs.LedgerLine.{item_of}
-use Rattle.epic_record.specs.LedgerText.{item_line}
+use Rattle.epic_record.specs.LedgerText.{item_line, ledger_text}
 use Rattle.epic_reread.specs.Rereading.{IsNamedHop}
 
 -- ---- what a line can tell: each number fits its type, and each AS can be named, but that a source may be a host of any AS
@@ -58,3 +60,17 @@ CanBeWritten (items.AcceptDest host bytes) = IsReadableHost host × IsBytes byte
 abbrev pub ItemsAreReadBack : Type 0
 ItemsAreReadBack =
     (item : Item) (line : List ℕ) → CanBeWritten item → line ++ (10 ∷ []) ≡ item_line item → item_of line ≡ Ok item
+
+-- each line may follow those before it
+abbrev pub ArePlaced : Network → List Item → List Item → Type 0
+ArePlaced t before [] = ⊤
+ArePlaced t before (item ∷ more) = IsTrue (is_placed t (history_in before) item) × ArePlaced t (before ++ item ∷ []) more
+
+-- the ledger file of items that may stand one after the other
+abbrev pub LedgersAreReadBack : Type 0
+LedgersAreReadBack =
+    (t : Network) (told : List Item)
+    → All CanBeWritten told
+    → ArePlaced t [] told
+    → length (ledger_text told) ≤ most_ledger
+    → ledger_file t (ledger_text told) ≡ Ok told
