@@ -5,6 +5,7 @@ mod HeldVerdicts
 mod LedgerFiles
 mod LedgerForms
 mod LedgerWords
+mod JudgedTrue
 mod PacketBytes
 mod Printed
 mod Readings

@@ -1,4 +1,5 @@
 pub mod Fitting
 pub mod LedgerRereading
+pub mod JudgedYes
 pub mod Rereading
 pub mod WholeFile

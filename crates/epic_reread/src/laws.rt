@@ -1,5 +1,6 @@
 //! What holds of all verdict lines, proved of the definitions alone.
 ghost use Rattle.epic_reread.specs.Fitting.{HeldVerdictsFit, VerdictsCanBeTold};
+ghost use Rattle.epic_reread.specs.JudgedYes.{GivenVerdictsAreJudgedTrue};
 ghost use Rattle.epic_reread.specs.Rereading.{DestLinesAreReadBack, HopLinesAreReadBack};
 ghost use Rattle.epic_reread.specs.WholeFile.{VerdictFilesAreReadBack};
 
@@ -22,4 +23,9 @@ pub fn verdict_files_are_read_back()
 /// The parts of a verdict that holds fit their types, where those of the ledger do.
 pub fn held_verdicts_fit()
     ensures { HeldVerdictsFit }
+{}
+
+/// Where the verdicts of a file hold of what the ledger file's lines accept, and can be told, the judge may say yes.
+pub fn given_verdicts_are_judged_true()
+    ensures { GivenVerdictsAreJudgedTrue }
 {}
