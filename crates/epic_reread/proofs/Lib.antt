@@ -6,6 +6,7 @@ mod LedgerFiles
 mod LedgerForms
 mod LedgerWords
 mod JudgedTrue
+mod OtherHops
 mod PacketBytes
 mod Printed
 mod Readings

@@ -11,6 +11,7 @@ use Rattle.epic_layout.specs.Contents.{Contents, HoldsBytes, IsBytes, IsPacket, 
 use Rattle.epic_topo.specs.Lawful.{IsTopology}
 use Rattle.epic_topo.specs.Network.{Network, has}
 use Rattle.epic_ledger.specs.Facts.{Facts, pass_name}
+use Rattle.epic_audit.specs.Kept.{ArePackets, Kept}
 use Rattle.epic_audit.specs.Holds.{Holds, Subject, AtDest, AtHop}
 use Rattle.epic_text.specs.VerdictText.{IsTellable}
 use Rattle.epic_judging.specs.Telling.{told_of}
@@ -76,3 +77,12 @@ HeldVerdictsFit =
     → IsTopology t → IsPacket p → HoldsBytes p → LedgerFits f → IsSubjectOf p subject
     → Holds t f p subject verdict
     → Fits verdict
+
+-- where every pass and every issue of the ledger was one of the topology's, as in each ledger of a world
+abbrev pub OtherHopsAreThere : Type 0
+OtherHopsAreThere =
+    (t : Network) (f : Facts) (p : Contents) (subject : Subject) (verdict : Verdict)
+    → Kept t f → ArePackets f → IsPacket p → IsSubjectOf p subject
+    → IsTellable t p verdict
+    → Holds t f p subject verdict
+    → OtherIsThere t verdict

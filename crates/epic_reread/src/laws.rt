@@ -1,5 +1,5 @@
 //! What holds of all verdict lines, proved of the definitions alone.
-ghost use Rattle.epic_reread.specs.Fitting.{HeldVerdictsFit, VerdictsCanBeTold};
+ghost use Rattle.epic_reread.specs.Fitting.{HeldVerdictsFit, OtherHopsAreThere, VerdictsCanBeTold};
 ghost use Rattle.epic_reread.specs.JudgedYes.{GivenVerdictsAreJudgedTrue};
 ghost use Rattle.epic_reread.specs.Rereading.{DestLinesAreReadBack, HopLinesAreReadBack};
 ghost use Rattle.epic_reread.specs.WholeFile.{VerdictFilesAreReadBack};
@@ -28,4 +28,9 @@ pub fn held_verdicts_fit()
 /// Where the verdicts of a file hold of what the ledger file's lines accept, and can be told, the judge may say yes.
 pub fn given_verdicts_are_judged_true()
     ensures { GivenVerdictsAreJudgedTrue }
+{}
+
+/// Of a verdict of a collision that holds over a ledger of a world, the hop that the ledger has is one of the topology's.
+pub fn other_hops_are_there()
+    ensures { OtherHopsAreThere }
 {}
