@@ -8,6 +8,7 @@ mod LedgerWords
 mod JudgedTrue
 mod OtherHops
 mod PacketBytes
+mod PlacedItems
 mod Printed
 mod Readings
 mod RunVerdicts

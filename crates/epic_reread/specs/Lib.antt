@@ -1,4 +1,5 @@
 pub mod Fitting
+pub mod LedgerFitting
 pub mod LedgerRereading
 pub mod JudgedYes
 pub mod Rereading
