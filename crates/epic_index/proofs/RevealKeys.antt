@@ -13,7 +13,7 @@ use Rattle.epic_ledger.proofs.Logging.{position-map}
 use Rattle.epic_ledger.specs.Facts.{Reveal, as_reveal, reveals_in, issues_in, facts_of}
 use Rattle.epic_ledger.specs.History.{History, step_of}
 use Rattle.epic_ledger.specs.declared.event.Event.{Event}
-use Rattle.epic_index.specs.Asked.{is_revealed_at}
+use Rattle.epic_judging.specs.Given.{is_revealed_at}
 use Rattle.epic_index.specs.Indexes.{history_of, IsApart, IsIndexOf}
 use Rattle.epic_index.specs.Keys.{holder_key, reveal_key}
 use Rattle.epic_index.specs.Stepping.{at_step, stepped}

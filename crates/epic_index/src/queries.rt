@@ -8,7 +8,7 @@ ghost use Rattle.epic_ledger.specs.Queries as queries;
 ghost use Rattle.epic_topo.specs.Network.{has};
 ghost use Rattle.epic_audit.specs.Reveals.{is_revealed};
 ghost use Rattle.epic_audit.specs.Verdicts.{is_twin};
-ghost use Rattle.epic_index.specs.Asked.{is_revealed_at};
+ghost use Rattle.epic_judging.specs.Given.{is_revealed_at};
 
 use crate::Index;
 use crate::reveals::key_of;
