@@ -26,7 +26,7 @@ issue_at_step s (event.Arrive step host src ts hops checked) = refl
 issue_at_step s (event.Reveal step holder) = refl
 issue_at_step s (event.Roll step a generation) = refl
 
-send_at_step : (es : List Emission) (s : ℕ) (e : Event) → as_send es (at_step s e) ≡ as_send es e
+pub send_at_step : (es : List Emission) (s : ℕ) (e : Event) → as_send es (at_step s e) ≡ as_send es e
 unfolding as_send at_step
 send_at_step es s (event.Issue step number name parent) = refl
 send_at_step es s (event.Fetch step source owner epoch) = refl
