@@ -1,0 +1,6 @@
+pub mod Breaking
+pub mod Breaks
+pub mod HopLines
+pub mod Known
+pub mod Sources
+pub mod Walking
