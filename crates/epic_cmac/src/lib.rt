@@ -9,7 +9,9 @@ mod state;
 mod subkeys;
 #[cfg(test)]
 mod tests;
+mod writer;
 
 pub use key::CmacKey;
 pub use one_shot::cmac;
 pub use state::CmacState;
+pub use writer::CmacWriter;

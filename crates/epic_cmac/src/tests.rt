@@ -2,7 +2,7 @@
 
 ghost use Rattle.std.specs.Prelude.{◌<◌};
 
-use crate::{CmacKey, CmacState, cmac};
+use crate::{CmacKey, CmacState, CmacWriter, cmac};
 
 const KEY: [u8; 16] = *b"\x2b\x7e\x15\x16\x28\xae\xd2\xa6\xab\xf7\x15\x88\x09\xcf\x4f\x3c";
 
@@ -74,4 +74,13 @@ fn tags_two_messages_side_by_side(rt: HostRuntime) {
     let (one, two) = key.tag_both(message, &key, message);
     assert_eq!(rt; one, tag);
     assert_eq!(rt; two, tag);
+}
+
+#[test]
+fn tags_pieces_under_a_ready_key(rt: HostRuntime) {
+    let key = CmacKey::new(&KEY);
+    let mut writer = CmacWriter::start(&key);
+    writer.update(&MESSAGE[..7]);
+    writer.update(&MESSAGE[7..40]);
+    assert_eq!(rt; writer.finish(), EXAMPLES[2].tag);
 }
