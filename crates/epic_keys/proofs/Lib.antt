@@ -1,1 +1,2 @@
 mod FetchLemmas
+mod ReadyLemmas

@@ -100,7 +100,7 @@ pub fn host_key(secret: &CmacKey, src: HostId) -> [u8; 16]
 
 /// The key for the AS `a`, under the secret value of an epoch.
 #[tactic(auto, unfolding(crate::specs::Keys::as_key))]
-fn as_key(secret: &CmacKey, a: AsId) -> [u8; 16]
+pub(crate) fn as_key(secret: &CmacKey, a: AsId) -> [u8; 16]
     ensures { result ≡ as_key secret.now a }
 {
     secret.tag(&as_key_message(a))

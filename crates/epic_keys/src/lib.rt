@@ -3,6 +3,8 @@
 
 mod derivation;
 mod key_store;
+mod secrets;
+mod shared_keys;
 #[cfg(test)]
 mod tests;
 
@@ -11,3 +13,4 @@ pub use derivation::{
 };
 pub use epic_num::NoKey;
 pub use key_store::{Fetched, KeyStore};
+pub use shared_keys::SharedKeys;

@@ -1,6 +1,7 @@
 //! Keys and their holders in tables.
 
 use super::*;
+use epic_cmac::cmac;
 use epic_num::{AsId, Holder, HostId, KeyName};
 use epic_topo::{Topology, read_topology};
 use std::alloc::Global;
@@ -159,5 +160,34 @@ fn a_source_has_the_keys_that_its_as_fetched(rt: HostRuntime) -> Result<(), Fail
     assert!(rt; store.fetch(&topo, SOURCE, TARGET, 19675)? == Fetched::New);
     let dest = 0x1a618d9fb20c9fe2894e71f1dbffa2bb_u128.to_be_bytes();
     assert!(rt; store.dest_key(&topo, RECEIVER, SENDER, 19675) == Ok(dest));
+    Ok(())
+}
+
+// The second name has the place of the first.
+#[test]
+fn a_kept_key_is_that_of_its_name(rt: HostRuntime) -> Result<(), Fail> {
+    let topo = topology(&rt, rt.alloc())?;
+    let name = KeyName::Dest {
+        dst: RECEIVER,
+        src: SENDER,
+        epoch: 19675,
+    };
+    let later = KeyName::Dest {
+        dst: RECEIVER,
+        src: SENDER,
+        epoch: 19676,
+    };
+    let key = 0x1a618d9fb20c9fe2894e71f1dbffa2bb_u128.to_be_bytes();
+    let later_key = 0x9728c1fbff0d3a853cafc60acd6179f0_u128.to_be_bytes();
+    let mut keys = SharedKeys::new();
+    for (name, key) in [(name, key), (name, key), (later, later_key), (name, key)] {
+        assert!(rt; topo.has(owner(&name)));
+        keys.prepare(&topo, &name);
+        assert_eq!(rt;
+            keys.get(&name).tag(b"kept"),
+            cmac(&key, b"kept"),
+            "{name:?}"
+        );
+    }
     Ok(())
 }
