@@ -8,20 +8,30 @@ ghost use Rattle.epic_layout.specs.Contents.{hop_count, field_bytes};
 ghost use Rattle.epic_layout.specs.Spelling.{segment_bytes, hop_bytes, path_bytes, update_count};
 ghost use Rattle.epic_fields.specs.Formulas as formulas;
 
-use epic_cmac::CmacState;
+use epic_cmac::{CmacKey, CmacWriter};
 use epic_num::{Field, HostId, Level, width_of};
 use epic_view::PacketRef;
 
 /// The destination field of a packet of level 2 or 3, under the key that its destination shares with its source. At
 /// level 3 `updates` has one update for each hop, as wide as the packet's fields; at level 2 it is empty.
-#[tactic(auto, unfolding(crate::specs::Formulas::dest_tag))]
 pub fn dest_tag(key: &[u8; 16], packet: &PacketRef<'_>, updates: &[Field]) -> [u8; 16]
     requires tagged { IsTrue (is_tagged packet.now.first) }
     requires count { length updates.now ≡ update_count packet.now.first (hop_count packet.now) }
     requires widths { All (λ u. u.width ≡ width_of packet.now.first) updates.now }
     ensures { result ≡ formulas.dest_tag key.now packet.now (map field_bytes updates.now) }
 {
-    let mut state = CmacState::start(key);
+    dest_tag_by(&CmacKey::new(key), packet, updates)
+}
+
+/// The same under a key that was made ready before.
+#[tactic(auto, unfolding(crate::specs::Formulas::dest_tag))]
+pub fn dest_tag_by(key: &CmacKey, packet: &PacketRef<'_>, updates: &[Field]) -> [u8; 16]
+    requires tagged { IsTrue (is_tagged packet.now.first) }
+    requires count { length updates.now ≡ update_count packet.now.first (hop_count packet.now) }
+    requires widths { All (λ u. u.width ≡ width_of packet.now.first) updates.now }
+    ensures { result ≡ formulas.dest_tag key.now packet.now (map field_bytes updates.now) }
+{
+    let mut state = CmacWriter::start(key);
     state.update(&[dest_domain(packet.first_byte())]);
     state.update(&packet.ts().to_be_bytes());
     feed_host(&mut state, packet.src());
@@ -62,7 +72,7 @@ pub fn dest_domain(first: u8) -> u8
 }
 
 /// Puts a host behind the message.
-fn feed_host(state: &mut CmacState, host: HostId)
+fn feed_host(state: &mut CmacWriter<'_>, host: HostId)
     ensures { state.new ≡ record state.old { message = state.old.message ++ host_bytes host } }
 {
     state.update(&host.asn.0.to_be_bytes());
@@ -70,7 +80,7 @@ fn feed_host(state: &mut CmacState, host: HostId)
 }
 
 /// Puts the path bytes of a packet behind the message.
-fn feed_path(state: &mut CmacState, packet: &PacketRef<'_>)
+fn feed_path(state: &mut CmacWriter<'_>, packet: &PacketRef<'_>)
     ensures { state.new ≡ record state.old { message = state.old.message ++ path_bytes packet.now.route } }
 {
     state.update(&[packet.shape().segments]);
@@ -80,7 +90,7 @@ fn feed_path(state: &mut CmacState, packet: &PacketRef<'_>)
 
 /// Puts the headers of a packet's segments behind the message.
 #[tactic(auto, unfolding(epic_layout::specs::Contents::shape))]
-fn feed_segments(state: &mut CmacState, packet: &PacketRef<'_>)
+fn feed_segments(state: &mut CmacWriter<'_>, packet: &PacketRef<'_>)
     ensures { state.new ≡ record state.old { message = state.old.message ++ flat_map segment_bytes packet.now.route.segments } }
 {
     let count = packet.shape().segments;
@@ -91,7 +101,7 @@ fn feed_segments(state: &mut CmacState, packet: &PacketRef<'_>)
 
 /// Puts a packet's hops without their fields behind the message.
 #[tactic(auto, unfolding(epic_layout::specs::Contents::shape))]
-fn feed_hops(state: &mut CmacState, packet: &PacketRef<'_>)
+fn feed_hops(state: &mut CmacWriter<'_>, packet: &PacketRef<'_>)
     ensures { state.new ≡ record state.old { message = state.old.message ++ flat_map hop_bytes packet.now.route.hops } }
 {
     let count = packet.shape().hops;
@@ -101,7 +111,7 @@ fn feed_hops(state: &mut CmacState, packet: &PacketRef<'_>)
 }
 
 /// Puts updates behind the message.
-fn feed_updates(state: &mut CmacState, updates: &[Field])
+fn feed_updates(state: &mut CmacWriter<'_>, updates: &[Field])
     requires { All (λ u. u.width ≤ 6) updates.now }
     ensures { state.new ≡ record state.old { message = state.old.message ++ concat (map field_bytes updates.now) } }
 {

@@ -10,14 +10,14 @@ mod tags;
 #[cfg(test)]
 mod tests;
 
-pub use destination::{are_updates, dest_domain, dest_tag};
+pub use destination::{are_updates, dest_domain, dest_tag, dest_tag_by};
 pub use hop::{
     authenticator, authenticator_and_link_tag_by, field_part, field0, field1, field23, link_tag,
     update_part,
 };
 pub use laws::tags_look_at_no_field;
 pub use tags::{
-    carries_field, carries_link, dest_name, field_name, field_of, field_over, has_field, has_link,
-    hop_key, hop_message, hop_tag, link, message_over, shared_key, sigma, tag_over, untagged_field,
-    update_of, update_over,
+    carries_field, carries_link, dest_field_of, dest_name, field_name, field_of, field_over,
+    has_field, has_link, hop_key, hop_message, hop_tag, link, message_over, shared_key, sigma,
+    tag_over, tag_over_by, untagged_field, update_of, update_over,
 };

@@ -1,17 +1,20 @@
 //! The tags of a packet's hops: over given authenticators and keys, and under the keys of a topology.
 
-ghost use Rattle.std.specs.Prelude.{◌≡◌, ◌<◌, ◌≤◌, ℕ, List, false, IsTrue};
+ghost use Rattle.std.specs.Prelude.{◌≡◌, ◌<◌, ◌≤◌, ℕ, List, false, IsTrue, All, length, map};
 ghost use Rattle.epic_num.specs.Levels.{is_tagged, width_of};
 ghost use Rattle.epic_layout.specs.Contents.{as_field, field_bytes, hop_count};
+ghost use Rattle.epic_layout.specs.Spelling.{update_count};
 ghost use Rattle.epic_topo.specs.Network.{has};
 ghost use Rattle.epic_fields.specs.HopChecks as checks;
 ghost use Rattle.epic_fields.specs.PacketTags as packet_tags;
 ghost use Rattle.epic_fields.specs.Tags as tags;
 
+use crate::destination::dest_tag_by;
 use crate::hop::{
     authenticator, field_part, field0, field1, field23, link_tag, narrow, update_part,
 };
-use epic_keys::derive;
+use epic_cmac::CmacKey;
+use epic_keys::{SharedKeys, derive};
 use epic_num::{AsId, Field, HopName, KeyName, Level, field23_message, is_tagged};
 use epic_topo::Topology;
 use epic_view::PacketRef;
@@ -41,6 +44,15 @@ pub fn tag_over(shared: &[u8; 16], sigma: &[u8; 16], packet: &PacketRef<'_>, hop
         hop,
         sigma,
     )
+}
+
+/// The same under a shared key that was made ready before.
+#[tactic(auto, unfolding(crate::specs::PacketTags::tag_over, crate::specs::PacketTags::message_over, crate::specs::Formulas::field23))]
+pub fn tag_over_by(shared: &CmacKey, sigma: &[u8; 16], packet: &PacketRef<'_>, hop: u8) -> [u8; 16]
+    requires { IsTrue (is_tagged packet.now.first) }
+    ensures { result ≡ packet_tags.tag_over shared.now sigma.now packet.now hop }
+{
+    shared.tag(&message_over(sigma, packet, hop))
 }
 
 /// The field of a hop in a packet of level 0 or 1, for which no shared key is needed.
@@ -233,6 +245,25 @@ pub fn update_of(topo: &Topology, x: &HopName, packet: &PacketRef<'_>, hop: u8) 
         packet,
         hop,
     )
+}
+
+/// The destination field that the packet has over these updates, under a key that is ready or is made ready now.
+#[tactic(auto, unfolding(crate::specs::PacketTags::dest_field_of, crate::specs::PacketTags::dest_name, epic_keys::specs::Keys::owner))]
+pub fn dest_field_of(
+    keys: &mut SharedKeys,
+    topo: &Topology,
+    packet: &PacketRef<'_>,
+    updates: &[Field],
+) -> [u8; 16]
+    requires known { IsTrue (has topo.now packet.now.dst.asn) }
+    requires tagged { IsTrue (is_tagged packet.now.first) }
+    requires count { length updates.now ≡ update_count packet.now.first (hop_count packet.now) }
+    requires widths { All (λ u. u.width ≡ width_of packet.now.first) updates.now }
+    ensures { result ≡ packet_tags.dest_field_of topo.now packet.now (map field_bytes updates.now) }
+{
+    let name = dest_name(topo, packet);
+    keys.prepare(topo, &name);
+    dest_tag_by(keys.get(&name), packet, updates)
 }
 
 /// Whether the packet has the field of a hop of this name at the index.

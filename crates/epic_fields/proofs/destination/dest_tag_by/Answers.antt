@@ -11,7 +11,7 @@ use Rattle.epic_layout.specs.Spelling.{dest_message, path_bytes}
 use Rattle.epic_layout.proofs.Offsets.{width_most}
 use Rattle.epic_fields.specs.Formulas.{dest_tag}
 use Rattle.epic_fields.proofs.FedLemmas.{All-bounded, fed, fed_twice}
-use Rattle.epic_fields.proofs.destination.dest_tag.Goals as goal
+use Rattle.epic_fields.proofs.destination.dest_tag_by.Goals as goal
 
 pub feed_updates-requires : goal.feed_updates-requires
 feed_updates-requires c =
