@@ -16,6 +16,7 @@ ghost use Rattle.epic_topo.specs.Network.{has};
 use crate::accepted::{Accepted, Handled};
 use crate::ready::ReadyKeys;
 use crate::tags::Visit;
+use epic_cmac::CmacKey;
 use epic_num::{AsId, Check, is_expired, is_timed, same_as};
 use epic_topo::Topology;
 use epic_view::PacketRef;
@@ -211,7 +212,7 @@ impl Visit<'_, '_> {
 fn hops_by<'a, 'p>(
     topo: &'a Topology,
     keys: &'a ReadyKeys,
-    shared: &'a [u8; 16],
+    shared: &'a CmacKey,
     packet: &'a PacketRef<'p>,
     a: AsId,
     now: u64,
@@ -277,8 +278,9 @@ pub(crate) fn checked_hops(
     }
     let j = packet.current();
     keys.prepare(topo, a, generation);
-    let shared = keys.shared(topo, a, packet);
-    let handled = match hops_by(&*topo, &*keys, &shared, &*packet, a, now, j) {
+    let name = keys.prepare_shared(topo, a, packet);
+    let shared = keys.shared(topo, a, packet, &name);
+    let handled = match hops_by(&*topo, &*keys, shared, &*packet, a, now, j) {
         Ok(handled) => handled,
         Err(refusal) => return Err(refusal),
     };

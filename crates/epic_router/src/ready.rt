@@ -1,14 +1,14 @@
 //! Keys that a router keeps ready from one packet to the next.
 ghost use Rattle.std.specs.Prelude.{◌≡◌, ◌-◌, IsTrue};
 ghost use Rattle.epic_fields.specs.Formulas as formulas;
-ghost use Rattle.epic_keys.specs.Keys.{forwarding_key, host_key, master_key, secret_value};
-ghost use Rattle.epic_router.specs.Ready.{IsShared};
+ghost use Rattle.epic_keys.specs.Keys.{forwarding_key, master_key};
+ghost use Rattle.epic_router.specs.Ready.{IsShared, IsSharedKept};
 ghost use Rattle.epic_topo.specs.Network.{has};
 
 use epic_cmac::CmacKey;
-use epic_fields::authenticator_and_link_tag_by;
-use epic_keys::{forwarding_key, host_key, master_key, secret_value};
-use epic_num::{AsId, Body, HostId, is_tagged};
+use epic_fields::{authenticator_and_link_tag_by, field_name};
+use epic_keys::{SharedKeys, forwarding_key, master_key};
+use epic_num::{AsId, Body, KeyName, is_tagged};
 use epic_topo::Topology;
 use epic_view::PacketRef;
 use std::marker::Model;
@@ -69,64 +69,14 @@ impl ForwardingKey {
     }
 }
 
-/// The secret value of an epoch, made ready. Clauses see the master key that it was made from, and the epoch.
-#[derive(Drop)]
-pub struct SecretValue {
-    master: [u8; 16],
-    epoch: u64,
-    key: CmacKey,
-}
-
-impl Model for SecretValue {
-    ghost use Rattle.std.specs.Prelude.{◌≡◌};
-    ghost use Rattle.epic_keys.specs.Keys.{secret_value};
-    ghost use Rattle.epic_router.specs.Ready.{Numbered};
-
-    ghost Value = { Numbered };
-
-    ghost view = { λ k. record { master = k.master; number = k.epoch } };
-
-    ghost invariant = { λ k. k.key ≡ secret_value k.master k.epoch };
-}
-
-impl SecretValue {
-    /// The secret value of an epoch, under a master key.
-    pub fn new(master: &[u8; 16], epoch: u64) -> SecretValue
-        ensures { result ≡ record { master = master.now; number = epoch } }
-    {
-        SecretValue {
-            master: *master,
-            epoch,
-            key: CmacKey::new(&secret_value(master, epoch)),
-        }
-    }
-
-    /// Makes the secret value anew, unless it is that of this epoch under this master key.
-    pub fn prepare(&mut self, master: &[u8; 16], epoch: u64)
-        ensures { self.new ≡ record { master = master.now; number = epoch } }
-    {
-        if self.epoch != epoch || self.master != *master {
-            *self = SecretValue::new(master, epoch);
-        }
-    }
-
-    /// The key that its AS shares with a host of another AS.
-    pub fn host_key(&self, src: HostId) -> [u8; 16]
-        ensures { result ≡ host_key (secret_value self.now.master self.now.number) src }
-    {
-        host_key(&self.key, src)
-    }
-}
-
-/// The keys that a router keeps: the forwarding keys of the present generation and of the one before it, and the secret
-/// values of two epochs, one of even and one of odd number. Each knows what it was made from, so where the topology's
-/// master key is another they are made anew.
+/// The keys that a router keeps: the forwarding keys of the present generation and of the one before it, and those that its AS
+/// shares with the sources whose packets came last. Each knows what it was made from, so where the topology's master key is
+/// another they are made anew.
 #[derive(Drop)]
 pub struct ReadyKeys {
     pub present: ForwardingKey,
     pub previous: ForwardingKey,
-    even: SecretValue,
-    odd: SecretValue,
+    shared: SharedKeys,
 }
 
 impl ReadyKeys {
@@ -136,8 +86,7 @@ impl ReadyKeys {
         ReadyKeys {
             present: ForwardingKey::new(&master, 0),
             previous: ForwardingKey::new(&master, 0),
-            even: SecretValue::new(&master, 0),
-            odd: SecretValue::new(&master, 1),
+            shared: SharedKeys::new(),
         }
     }
 
@@ -152,33 +101,35 @@ impl ReadyKeys {
         self.previous.prepare(&master, generation.saturating_sub(1));
     }
 
-    /// The key that the AS with this master key shares with a host, in an epoch.
-    fn host_key(&mut self, master: &[u8; 16], epoch: u64, src: HostId) -> [u8; 16]
-        ensures value { result ≡ host_key (secret_value master.now epoch) src }
-        ensures present { self.new.present ≡ self.old.present }
-        ensures previous { self.new.previous ≡ self.old.previous }
-    {
-        if epoch % 2 == 0 {
-            self.even.prepare(master, epoch);
-            return self.even.host_key(src);
-        }
-        self.odd.prepare(master, epoch);
-        self.odd.host_key(src)
-    }
-
-    /// The key that the AS shares with the packet's source, in the epoch of the packet's timestamp, at levels 2 and 3; no
-    /// key at levels 0 and 1.
-    #[tactic(auto, unfolding(epic_fields::specs::PacketTags::shared_key, epic_fields::specs::PacketTags::field_name, epic_keys::specs::Keys::key))]
-    pub fn shared(&mut self, topo: &Topology, a: AsId, packet: &PacketRef<'_>) -> [u8; 16]
+    /// Makes the key ready that the AS shares with the packet's source, in the epoch of the packet's timestamp, at levels 2 and 3.
+    /// The answer is its name, and at levels 0 and 1 any name.
+    #[tactic(auto, unfolding(epic_fields::specs::PacketTags::field_name, epic_keys::specs::Keys::owner))]
+    pub fn prepare_shared(&mut self, topo: &Topology, a: AsId, packet: &PacketRef<'_>) -> KeyName
         requires known { IsTrue (has topo.now a) }
-        ensures shared { IsShared topo.now a packet.now result }
+        ensures kept { IsSharedKept topo.now a packet.now self.new.shared result }
         ensures present { self.new.present ≡ self.old.present }
         ensures previous { self.new.previous ≡ self.old.previous }
     {
         if !is_tagged(packet.first_byte()) {
-            return [0; 16];
+            return KeyName::Fwd { a, g: 0 };
         }
-        let epoch = topo.profile().epoch_of(packet.ts());
-        self.host_key(&master_key(topo, a), epoch, packet.src())
+        let name = field_name(topo, a, packet);
+        self.shared.prepare(topo, &name);
+        name
+    }
+
+    /// The key that was made ready under this name, at levels 2 and 3; at levels 0 and 1 any key.
+    #[tactic(auto, unfolding(epic_fields::specs::PacketTags::shared_key))]
+    pub fn shared(
+        &self,
+        topo: &Topology,
+        a: AsId,
+        packet: &PacketRef<'_>,
+        name: &KeyName,
+    ) -> &CmacKey
+        requires kept { IsSharedKept topo.now a packet.now self.now.shared name.now }
+        ensures { IsShared topo.now a packet.now result.now }
+    {
+        self.shared.get(name)
     }
 }

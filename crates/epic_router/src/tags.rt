@@ -14,7 +14,10 @@ ghost use Rattle.epic_router.specs.Ready.{IsReady};
 
 use crate::accepted::Accepted;
 use crate::ready::ForwardingKey;
-use epic_fields::{carries_field, carries_link, field_part, tag_over, untagged_field, update_part};
+use epic_cmac::CmacKey;
+use epic_fields::{
+    carries_field, carries_link, field_part, tag_over_by, untagged_field, update_part,
+};
 use epic_num::{AsId, Check, Field, is_tagged};
 use epic_topo::Topology;
 use epic_view::PacketRef;
@@ -30,8 +33,8 @@ pub struct Visit<'a, 'p> {
     /// The forwarding keys of the present generation and of the one before it.
     pub present: &'a ForwardingKey,
     pub previous: &'a ForwardingKey,
-    /// The key that the AS shares with the packet's source, at levels 2 and 3.
-    pub shared: &'a [u8; 16],
+    /// The key that the AS shares with the packet's source, at levels 2 and 3, made ready.
+    pub shared: &'a CmacKey,
     pub ghost ready: { IsReady topo.now a packet.now present.now previous.now shared.now },
 }
 
@@ -52,7 +55,7 @@ struct Fit {
 }
 
 /// A hop's field and update, over its authenticator and the key that its AS shares with the packet's source.
-fn hop_tags(sigma: &[u8; 16], shared: &[u8; 16], packet: &PacketRef<'_>, j: u8) -> HopTags
+fn hop_tags(sigma: &[u8; 16], shared: &CmacKey, packet: &PacketRef<'_>, j: u8) -> HopTags
     ensures field { (key : List ℕ) → (IsTrue (is_tagged packet.now.first) → shared.now ≡ key) → result.field ≡ as_field (field_over key sigma.now packet.now j) }
     ensures update { IsTrue (is_tagged packet.now.first) → result.update ≡ as_field (update_over shared.now sigma.now packet.now j) }
     ensures field_width { result.field.width ≡ width_of packet.now.first }
@@ -60,7 +63,7 @@ fn hop_tags(sigma: &[u8; 16], shared: &[u8; 16], packet: &PacketRef<'_>, j: u8) 
 {
     let first = packet.first_byte();
     if is_tagged(first) {
-        let tag = tag_over(shared, sigma, packet, j);
+        let tag = tag_over_by(shared, sigma, packet, j);
         HopTags {
             field: field_part(first, &tag),
             update: update_part(first, &tag),
