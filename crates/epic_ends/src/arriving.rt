@@ -10,16 +10,14 @@ ghost use Rattle.epic_layout.specs.Contents.{IsPacket, field_bytes, hop_count};
 ghost use Rattle.epic_layout.specs.Spelling.{update_count};
 ghost use Rattle.epic_layout.specs.Updates as updates;
 ghost use Rattle.epic_topo.specs.Network.{has};
-ghost use Rattle.epic_keys.specs.Keys.{key};
-ghost use Rattle.epic_fields.specs.PacketTags.{dest_name};
 ghost use Rattle.epic_router.specs.Remembering.{Retains};
 ghost use Rattle.epic_ends.specs.Arriving as rows;
 ghost use Rattle.epic_ends.specs.Arriving.{tagged_rows};
 ghost use Rattle.epic_ends.specs.Destinations.{end_key, is_accepted, told_at};
 
 use arrayvec::ArrayVec;
-use epic_fields::{dest_name, dest_tag};
-use epic_keys::derive;
+use epic_fields::dest_field_of;
+use epic_keys::SharedKeys;
 use epic_num::{Arrival, DestCheck, Field, HostId, Profile, is_tagged, is_updated, same_host};
 use epic_topo::Topology;
 use epic_view::PacketRef;
@@ -85,25 +83,15 @@ fn own_updates(packet: &PacketRef<'_>) -> ArrayVec<Field, 32>
     updates
 }
 
-/// The key that the packet's destination shares with its source.
-#[tactic(auto, unfolding(epic_fields::specs::PacketTags::dest_name, epic_keys::specs::Keys::owner))]
-fn shared_key(topo: &Topology, packet: &PacketRef<'_>) -> [u8; 16]
-    requires { IsTrue (has topo.now packet.now.dst.asn) }
-    ensures { result ≡ key topo.now (dest_name topo.now packet.now) }
-{
-    derive(topo, &dest_name(topo, packet))
-}
-
-/// Whether the destination field is the one that this key gives.
-#[tactic(auto, unfolding(crate::specs::Arriving::dest_field_fits, epic_fields::specs::PacketTags::dest_field_of))]
-fn dest_field_fits(topo: &Topology, packet: &PacketRef<'_>) -> bool
+/// Whether the destination field is the one that the key gives which the packet's destination shares with its source.
+#[tactic(auto, unfolding(crate::specs::Arriving::dest_field_fits))]
+fn dest_field_fits(topo: &Topology, keys: &mut SharedKeys, packet: &PacketRef<'_>) -> bool
     requires known { IsTrue (has topo.now packet.now.dst.asn) }
     requires tagged { IsTrue (is_tagged packet.now.first) }
     ensures { result ≡ rows.dest_field_fits topo.now packet.now }
 {
-    let key = shared_key(topo, packet);
     let updates = own_updates(packet);
-    packet.dest_field() == dest_tag(&key, packet, updates.as_slice())
+    packet.dest_field() == dest_field_of(keys, topo, packet, updates.as_slice())
 }
 
 /// What the host knows the packet by.
@@ -138,6 +126,7 @@ fn remember(packet: &PacketRef<'_>, window: &mut Window, now: u64, turn: u32) ->
 #[tactic(auto, using(epic_num::proofs::TableLaws::tables), unfolding(crate::specs::Arriving::tagged_rows))]
 fn check_tagged(
     topo: &Topology,
+    keys: &mut SharedKeys,
     packet: &PacketRef<'_>,
     window: &mut Window,
     now: u64,
@@ -154,7 +143,7 @@ fn check_tagged(
     if let Some(check) = fresh_refusal(packet, &topo.profile(), now) {
         return Arrival::Refused(check);
     }
-    if !dest_field_fits(topo, packet) {
+    if !dest_field_fits(topo, keys, packet) {
         return Arrival::Refused(DestCheck::BadDestinationField);
     }
     remember(packet, window, now, turn)
@@ -165,6 +154,7 @@ fn check_tagged(
 pub(crate) fn arrived(
     topo: &Topology,
     host: HostId,
+    keys: &mut SharedKeys,
     packet: &PacketRef<'_>,
     window: &mut Window,
     now: u64,
@@ -183,5 +173,5 @@ pub(crate) fn arrived(
     if !is_tagged(packet.first_byte()) {
         return Arrival::Unchecked;
     }
-    check_tagged(topo, packet, window, now, turn)
+    check_tagged(topo, keys, packet, window, now, turn)
 }

@@ -9,6 +9,7 @@ ghost use Rattle.epic_ends.specs.Destinations.{end_key, is_accepted, told_at};
 ghost use Rattle.epic_ends.specs.RightArrivals.{IsRightArrival};
 
 use crate::arriving::arrived;
+use epic_keys::SharedKeys;
 use epic_num::{Arrival, DestCheck, HostId, OutOfMemory, Profile};
 use epic_topo::Topology;
 use epic_view::PacketRef;
@@ -20,6 +21,8 @@ use std::marker::Model;
 #[derive(Drop)]
 pub struct Dest {
     host: HostId,
+    // Those that it shares with sources.
+    keys: SharedKeys,
     window: Window,
 }
 
@@ -42,6 +45,7 @@ impl Dest {
     {
         Dest {
             host,
+            keys: SharedKeys::new(),
             window: Window::new(alloc, profile, seed),
         }
     }
@@ -103,7 +107,15 @@ impl Dest {
         ensures right { IsRightArrival topo.now self.old.host now (told_at self.old.window now (parse bytes.now)) bytes.now result }
     {
         match PacketRef::look(bytes) {
-            Ok(packet) => arrived(topo, self.host, &packet, &mut self.window, now, turn),
+            Ok(packet) => arrived(
+                topo,
+                self.host,
+                &mut self.keys,
+                &packet,
+                &mut self.window,
+                now,
+                turn,
+            ),
             Err(fault) => Arrival::Refused(DestCheck::Layout(fault)),
         }
     }

@@ -13,8 +13,7 @@ ghost use Rattle.epic_ends.specs.Filling.{fields_by, updates_by, filled};
 use crate::path_parts::MOST_HOPS;
 use crate::ready_keys::ReadyKeys;
 use arrayvec::ArrayVec;
-use epic_fields::{dest_name, dest_tag, field_part, message_over, untagged_field, update_part};
-use epic_keys::derive;
+use epic_fields::{field_part, message_over, untagged_field, update_part};
 use epic_layout::wire::DEST_LEN;
 use epic_layout::{Shape, shape_of};
 use epic_num::{Field, SegHop, is_tagged, is_updated};
@@ -112,16 +111,20 @@ fn covered(first: u8, updates: &[Field]) -> &[Field]
 }
 
 /// The destination field of a packet of level 2 or 3, whose hops have these updates.
-#[tactic(auto, unfolding(epic_fields::specs::PacketTags::dest_field_of, epic_fields::specs::PacketTags::dest_name, epic_keys::specs::Keys::owner))]
-fn dest_field(topo: &Topology, packet: &PacketRef<'_>, updates: &[Field]) -> [u8; DEST_LEN]
+fn dest_field(
+    topo: &Topology,
+    keys: &mut ReadyKeys,
+    packet: &PacketRef<'_>,
+    updates: &[Field],
+) -> [u8; DEST_LEN]
     requires known { IsTrue (has topo.now packet.now.dst.asn) }
     requires tagged { IsTrue (is_tagged_first packet.now.first) }
     requires count { length updates.now ≡ hop_count packet.now }
     requires widths { All (λ u. u.width ≡ width_of packet.now.first) updates.now }
-    ensures { result ≡ packet_tags.dest_field_of topo.now packet.now (map field_bytes (take (update_count packet.now.first (hop_count packet.now)) updates.now)) }
+    ensures same { keys.new ≡ keys.old }
+    ensures field { result ≡ packet_tags.dest_field_of topo.now packet.now (map field_bytes (take (update_count packet.now.first (hop_count packet.now)) updates.now)) }
 {
-    let key = derive(topo, &dest_name(topo, packet));
-    dest_tag(&key, packet, covered(packet.first_byte(), updates))
+    keys.dest_field(topo, packet, covered(packet.first_byte(), updates))
 }
 
 /// Puts a field in the place of the hop's.
@@ -191,7 +194,7 @@ fn tags_of(topo: &Topology, keys: &mut ReadyKeys, hops: &[SegHop], packet: &Pack
 {
     let _shape = packet.shape();
     let HopFields { fields, updates } = tagged_hops(topo, keys, hops, packet);
-    let field = dest_field(topo, packet, updates.as_slice());
+    let field = dest_field(topo, keys, packet, updates.as_slice());
     Tags {
         fields,
         dest_field: field,

@@ -1,15 +1,21 @@
-//! Keys that a source shares with the ASes of its paths, ready for use.
-ghost use Rattle.std.specs.Prelude.{◌≡◌, All, IfSome, IsTrue};
+//! Keys that a source shares with the ASes of its paths and with its destinations, ready for use.
+ghost use Rattle.std.specs.Prelude.{◌≡◌, All, IfSome, IsTrue, length, map};
 ghost use Rattle.epic_cmac.specs.Cmac.{cmac};
+ghost use Rattle.epic_fields.specs.PacketTags as packet_tags;
 ghost use Rattle.epic_keys.specs.Keys as keys;
-ghost use Rattle.epic_num.specs.declared.key_name.KeyName.TheVariants.{Field};
+ghost use Rattle.epic_layout.specs.Contents.{field_bytes, hop_count};
+ghost use Rattle.epic_layout.specs.Spelling.{update_count};
+ghost use Rattle.epic_num.specs.Levels.{is_tagged, width_of};
+ghost use Rattle.epic_num.specs.declared.key_name.KeyName.TheVariants as names;
 ghost use Rattle.epic_topo.specs.Network.{has};
 ghost use Rattle.epic_ends.specs.Filling.{IsReady};
 
 use epic_cmac::CmacKey;
-use epic_keys::{host_key, master_key, secret_value};
-use epic_num::{AsId, HostId};
+use epic_fields::dest_field_of;
+use epic_keys::{SharedKeys, host_key, master_key, secret_value};
+use epic_num::{AsId, Field, HostId};
 use epic_topo::Topology;
+use epic_view::PacketRef;
 use std::alloc::Global;
 use std::marker::Model;
 
@@ -29,6 +35,8 @@ pub struct ReadyKey {
 pub struct ReadyKeys {
     src: HostId,
     kept: Vec<ReadyKey>,
+    // Those that it shares with destinations.
+    ends: SharedKeys,
 }
 
 impl Model for ReadyKeys {
@@ -70,6 +78,7 @@ impl ReadyKeys {
         ReadyKeys {
             src,
             kept: Vec::new(alloc),
+            ends: SharedKeys::new(),
         }
     }
 
@@ -84,7 +93,7 @@ impl ReadyKeys {
     #[tactic(auto, unfolding(epic_keys::specs::Keys::key))]
     pub fn tag(&mut self, topo: &Topology, a: AsId, epoch: u64, message: &[u8]) -> [u8; 16]
         requires { IsTrue (has topo.now a) }
-        ensures tag { result ≡ cmac (keys.key topo.now (Field a self.old epoch)) message.now }
+        ensures tag { result ≡ cmac (keys.key topo.now (names.Field a self.old epoch)) message.now }
         ensures same { self.new ≡ self.old }
     {
         let master = master_key(topo, a);
@@ -97,6 +106,23 @@ impl ReadyKeys {
         let tag = key.tag(message);
         self.keep(ReadyKey { master, epoch, key });
         tag
+    }
+
+    /// The destination field that a packet has over these updates.
+    pub fn dest_field(
+        &mut self,
+        topo: &Topology,
+        packet: &PacketRef<'_>,
+        updates: &[Field],
+    ) -> [u8; 16]
+        requires known { IsTrue (has topo.now packet.now.dst.asn) }
+        requires tagged { IsTrue (is_tagged packet.now.first) }
+        requires count { length updates.now ≡ update_count packet.now.first (hop_count packet.now) }
+        requires widths { All (λ u. u.width ≡ width_of packet.now.first) updates.now }
+        ensures field { result ≡ packet_tags.dest_field_of topo.now packet.now (map field_bytes updates.now) }
+        ensures same { self.new ≡ self.old }
+    {
+        dest_field_of(&mut self.ends, topo, packet, updates)
     }
 
     /// Keeps a key, unless memory is missing.
