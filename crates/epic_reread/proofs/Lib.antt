@@ -1,4 +1,4 @@
-mod Bytes
+pub mod Bytes
 mod Clean
 mod Forms
 mod HeldVerdicts
@@ -7,12 +7,12 @@ mod LedgerForms
 mod LedgerWords
 mod JudgedTrue
 mod OtherHops
-mod PacketBytes
+pub mod PacketBytes
 mod PlacedItems
 mod Printed
 mod Readings
 mod RunVerdicts
-mod TagsAreBytes
+pub mod TagsAreBytes
 mod Texts
 mod WholeFiles
 mod WholeLines

@@ -1,5 +1,5 @@
 -- The parts of a packet, and what its tags are made over, are bytes.
-use Rattle.std.proofs.Common.{ℕ, zero, suc, ◌+◌, ◌-◌, ◌<◌, ◌==◌, Bool, cond, List, [], ◌∷◌, ◌++◌, length, take, flat_map, sym, subst, arith}
+use Rattle.std.proofs.Common.{ℕ, zero, suc, ◌+◌, ◌-◌, ◌<◌, ◌==◌, Bool, cond, List, [], ◌∷◌, ◌++◌, length, flat_map, sym, subst, arith}
 use Rattle.std.specs.Prelude.{All}
 use Rattle.std.specs.List.{concat}
 use Rattle.std.proofs.lemmas.Bool.{cond_both}
@@ -12,8 +12,8 @@ use Rattle.epic_num.specs.Messages.{authenticator_message, dest_domain, field1_m
 use Rattle.epic_layout.specs.declared.head.HopHead.{HopHead}
 use Rattle.epic_layout.specs.declared.head.HopPlace.{HopPlace}
 use Rattle.epic_layout.specs.declared.head.SegmentHead.{SegmentHead}
-use Rattle.epic_layout.specs.Contents.{Contents, HoldsBytes, IsBytes, IsHop, IsPacket, IsSegment, field, hop_count}
-use Rattle.epic_layout.specs.Route.{body, hop, no_hop, no_segment, place, position}
+use Rattle.epic_layout.specs.Contents.{Contents, HoldsBytes, IsBytes, IsHop, IsPacket, IsRoute, IsSegment, field, hop_count}
+use Rattle.epic_layout.specs.Route.{Route, body, hop, no_hop, no_segment, place, position}
 use Rattle.epic_layout.specs.Spelling.{dest_message, hop_bytes, path_bytes, segment_bytes, update_count}
 use Rattle.epic_layout.specs.Updates.{own_updates}
 use Rattle.epic_layout.proofs.HopPlaces.{places_are_one}
@@ -44,7 +44,7 @@ field_is p j is bytes there = bytes.field_bytes j [] (omega (arith, there, is.co
 
 -- ---- messages of hops
 
-host_is : (h : HostId) → AreBytes (host_bytes h)
+pub host_is : (h : HostId) → AreBytes (host_bytes h)
 unfolding host_bytes u32_bytes u64_bytes
 host_is h = bytes_onto (u64_bytes h.asn.0) (u32_bytes h.host) (high_bytes 8 h.asn.0) (high_bytes 4 h.host)
 
@@ -87,7 +87,7 @@ field23_message_is first ts src j sigma low is =
 
 -- ---- the message of a destination field
 
-flat_is : {X : Type 0} (P : X → Type 0) (f : X → List ℕ) → ((x : X) → P x → AreBytes (f x)) → (xs : List X) → All P xs → AreBytes (flat_map f xs)
+pub flat_is : {X : Type 0} (P : X → Type 0) (f : X → List ℕ) → ((x : X) → P x → AreBytes (f x)) → (xs : List X) → All P xs → AreBytes (flat_map f xs)
 flat_is P f each [] h = λ i. omega arith
 flat_is P f each (x ∷ xs) h = bytes_onto (f x) (flat_map f xs) (each x (All-head P x xs h)) (flat_is P f each xs (All-tail P x xs h))
 
@@ -95,41 +95,48 @@ concat_is : (lists : List (List ℕ)) → All IsBytes lists → AreBytes (concat
 concat_is [] h = λ i. omega arith
 concat_is (one ∷ more) h = bytes_onto one (concat more) (are_bytes one (All-head IsBytes one more h)) (concat_is more (All-tail IsBytes one more h))
 
-segment_is : (s : SegmentHead) → IsSegment s → AreBytes (segment_bytes s)
+pub segment_is : (s : SegmentHead) → IsSegment s → AreBytes (segment_bytes s)
 unfolding segment_bytes u32_bytes
 segment_is s is =
     let ts = u32_bytes s.ts_path in
     byte_onto (cond s.against 1 0) (s.count ∷ 0 ∷ 0 ∷ ts) (choice s.against 1 0 (omega arith) (omega arith))
     (byte_onto s.count (0 ∷ 0 ∷ ts) (omega (arith, is.most)) (byte_onto 0 (0 ∷ ts) (omega arith) (byte_onto 0 ts (omega arith) (high_bytes 4 s.ts_path))))
 
-hop_is : (h : HopHead) → IsHop h × IsBytes h.link → AreBytes (hop_bytes h)
+pub hop_is : (h : HopHead) → IsHop h × IsBytes h.link → AreBytes (hop_bytes h)
 unfolding hop_bytes u16_bytes
 hop_is h is =
     let out = u16_bytes h.out ++ h.link in
     byte_onto h.exp (u16_bytes h.inn ++ out) (omega (arith, is.0.exp))
     (bytes_onto (u16_bytes h.inn) out (high_bytes 2 h.inn) (bytes_onto (u16_bytes h.out) h.link (high_bytes 2 h.out) (are_bytes h.link is.1)))
 
-path_is : (p : Contents) → IsPacket p → HoldsBytes p → AreBytes (path_bytes p.route)
+path_is : (r : Route) → IsRoute r → All (λ h. IsBytes h.link) r.hops → AreBytes (path_bytes r)
 unfolding path_bytes
-path_is p is bytes =
-    let segments = flat_map segment_bytes p.route.segments in
-    let hops = flat_map hop_bytes p.route.hops in
-    byte_onto (length p.route.segments) (segments ++ hops) (omega (arith, is.route.few_segments))
-    (bytes_onto segments hops (flat_is IsSegment segment_bytes segment_is p.route.segments is.route.segments)
-    (flat_is (λ h. IsHop h × IsBytes h.link) hop_bytes hop_is p.route.hops (λ k d l. (is.route.hops k d l, bytes.links k d l))))
+path_is r is links =
+    let segments = flat_map segment_bytes r.segments in
+    let hops = flat_map hop_bytes r.hops in
+    byte_onto (length r.segments) (segments ++ hops) (omega (arith, is.few_segments))
+    (bytes_onto segments hops (flat_is IsSegment segment_bytes segment_is r.segments is.segments)
+    (flat_is (λ h. IsHop h × IsBytes h.link) hop_bytes hop_is r.hops (λ k d l. (is.hops k d l, links k d l))))
 
-pub dest_message_is : (p : Contents) → IsPacket p → HoldsBytes p → IsBytes (dest_message p (own_updates p))
-unfolding dest_message own_updates u16_bytes u64_bytes
-dest_message_is p is bytes =
-    let count = update_count p.first (hop_count p) in
+-- over any updates
+pub dest_message_over : (p : Contents) (updates : List (List ℕ)) → IsRoute p.route → All (λ h. IsBytes h.link) p.route.hops → IsBytes p.payload
+    → All IsBytes updates → IsBytes (dest_message p updates)
+unfolding dest_message u16_bytes u64_bytes
+dest_message_over p updates route links payload are =
     let end = u16_bytes (length p.payload) ++ p.payload in
-    let updates = concat (take count p.fields) ++ end in
-    let path = path_bytes p.route ++ updates in
+    let us = concat updates ++ end in
+    let path = path_bytes p.route ++ us in
     let hosts = host_bytes p.dst ++ path in
     is_bytes (dest_domain p.first ∷ (u64_bytes p.ts ++ (host_bytes p.src ++ hosts)))
     (byte_onto (dest_domain p.first) (u64_bytes p.ts ++ (host_bytes p.src ++ hosts)) (dest_domain_is p.first)
     (timed p.ts p.src hosts
     (bytes_onto (host_bytes p.dst) path (host_is p.dst)
-    (bytes_onto (path_bytes p.route) updates (path_is p is bytes)
-    (bytes_onto (concat (take count p.fields)) end (concat_is (take count p.fields) (All-take IsBytes count p.fields bytes.field_bytes))
-    (bytes_onto (u16_bytes (length p.payload)) p.payload (high_bytes 2 (length p.payload)) (are_bytes p.payload bytes.payload_bytes)))))))
+    (bytes_onto (path_bytes p.route) us (path_is p.route route links)
+    (bytes_onto (concat updates) end (concat_is updates are)
+    (bytes_onto (u16_bytes (length p.payload)) p.payload (high_bytes 2 (length p.payload)) (are_bytes p.payload payload)))))))
+
+pub dest_message_is : (p : Contents) → IsPacket p → HoldsBytes p → IsBytes (dest_message p (own_updates p))
+unfolding own_updates
+dest_message_is p is bytes =
+    dest_message_over p (own_updates p) is.route bytes.links bytes.payload_bytes
+    (All-take IsBytes (update_count p.first (hop_count p)) p.fields bytes.field_bytes)

@@ -27,12 +27,12 @@ use Rattle.epic_reread.proofs.Bytes.{body_bytes_are, byte_onto, bytes_onto, high
 
 -- ---- tags of messages
 
-taken : (n : ℕ) (bytes : List ℕ) → AreBytes bytes → AreBytes (take n bytes)
+pub taken : (n : ℕ) (bytes : List ℕ) → AreBytes bytes → AreBytes (take n bytes)
 taken zero bytes h i = omega arith
 taken (suc n) [] h i = omega arith
 taken (suc n) (b ∷ bytes) h i = byte_onto b (take n bytes) (h zero) (taken n bytes (λ j. h (suc j))) i
 
-dropped : (n : ℕ) (bytes : List ℕ) → AreBytes bytes → AreBytes (drop n bytes)
+pub dropped : (n : ℕ) (bytes : List ℕ) → AreBytes bytes → AreBytes (drop n bytes)
 dropped zero bytes h = h
 dropped (suc n) [] h = λ i. omega arith
 dropped (suc n) (b ∷ bytes) h = dropped n bytes (λ j. h (suc j))
@@ -85,7 +85,7 @@ found_is P test (y ∷ ys) h x e = by (found_is P test ys (All-tail P y ys h) x)
     by more true is = subst P (same_Some y x (sym (ap (λ b. cond b (Some y) (find test ys)) is) ∙ e)) (All-head P y ys h)
     by more false is = more (sym (ap (λ b. cond b (Some y) (find test ys)) is) ∙ e)
 
-master_is : (t : Network) (a : AsId) → IsTopology t → AreBytes (master_key t a)
+pub master_is : (t : Network) (a : AsId) → IsTopology t → AreBytes (master_key t a)
 unfolding master_key master
 master_is t a ok = by (find (λ s. same_as s.asn a) t.systems) refl
   where

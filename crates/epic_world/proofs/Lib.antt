@@ -3,7 +3,7 @@ mod Carried
 mod CarryGrows
 pub mod Counted
 mod Gone
-mod Grown
+pub mod Grown
 mod Issued
 mod Refined
 mod Runs
