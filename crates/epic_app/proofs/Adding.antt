@@ -18,7 +18,7 @@ use Rattle.epic_app.specs.Acts.{appends}
 use Rattle.epic_app.specs.Added.{added_to, all_added}
 use Rattle.epic_app.specs.Keeping.{files_of, kept_in, ledger_file, saved_file, verdict_file}
 use Rattle.epic_app.specs.Kept.{adding, grown}
-use Rattle.epic_app.specs.Ledgers.{step_ledger, step_verdicts}
+use Rattle.epic_rerun.specs.Ledgers.{step_ledger, step_verdicts}
 use Rattle.epic_app.specs.Noting.{passes_after}
 use Rattle.epic_app.specs.Saved.{as_captured, captured_in, saved_in}
 use Rattle.epic_app.specs.Telling.{mark_of, passes_verdicts, told_since}

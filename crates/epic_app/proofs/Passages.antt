@@ -56,7 +56,7 @@ use Rattle.epic_model.specs.Traces.{Passage, shown, Stepped, answered, refused, 
 use Rattle.epic_record.specs.declared.item.Item.TheVariants as items
 use Rattle.epic_record.specs.Passing.{accepted_items, emitted_from, new_items, pass_items}
 use Rattle.epic_text.specs.Report.{emission_bytes, bytes_in}
-use Rattle.epic_app.specs.Ledgers.{passage_items, passage_verdicts, passages_items, step_items, step_verdicts}
+use Rattle.epic_rerun.specs.Ledgers.{passage_items, passage_verdicts, passages_items, step_items, step_verdicts}
 use Rattle.epic_app.specs.Noting.{Coming, coming, passes_after, passes_told}
 use Rattle.epic_app.specs.Telling.{AreWithin, after_pass, between, mark_of, passes_verdicts, told_from, told_since}
 use Rattle.epic_app.proofs.ToldPasses.{Stays, bytes_stay}

@@ -8,7 +8,7 @@ use Rattle.epic_capture.specs.Saving.{file_head, saved, saved_record}
 use Rattle.epic_record.specs.LedgerText.{item_line, ledger_text}
 use Rattle.epic_words.specs.Request.{Run, RunRequest, is_shared, reads_of, shares_files}
 use Rattle.epic_app.specs.Keeping.{files_of, kept_by, ledger_file, saved_file, verdict_file}
-use Rattle.epic_app.specs.Ledgers.{items_told, step_items, step_ledger, verdicts_told}
+use Rattle.epic_rerun.specs.Ledgers.{items_told, step_items, step_ledger, verdicts_told}
 use Rattle.epic_app.specs.Saved.{captured_by, captured_in, saved_in}
 use Rattle.epic_app.proofs.Apart.{apart, names_are}
 use Rattle.epic_topo.specs.Network.{Network}

@@ -49,7 +49,7 @@ use Rattle.epic_text.specs.Report.{IsToldPass, IsToldCarry, emission_bytes}
 use Rattle.epic_text.specs.VerdictText.{IsTellable}
 use Rattle.epic_app.specs.Noting.{coming}
 use Rattle.epic_app.specs.Policed.{IsNotable, IsNotableTurn, IsNotableAt, IsNotablePass}
-use Rattle.epic_app.proofs.ToldVerdicts.{hops_told, hops_counted, dest_told}
+use Rattle.epic_rerun.proofs.ToldVerdicts.{hops_told, hops_counted, dest_told}
 
 -- ---- passes
 

@@ -26,7 +26,7 @@ use Rattle.epic_app.specs.Doing.{showing}
 use Rattle.epic_app.specs.Generating.{gen_text, generated_steps}
 use Rattle.epic_app.specs.HopFile.{hop_rule}
 use Rattle.epic_app.specs.HopReport.{AllHold, is_forged, report_text}
-use Rattle.epic_app.specs.Ledgers.{items_told, verdicts_told}
+use Rattle.epic_rerun.specs.Ledgers.{items_told, verdicts_told}
 use Rattle.epic_app.specs.Readings.{Holds}
 use Rattle.epic_words.specs.Request.{Request, Hop, Run, Gen, RunRequest, request_of}
 use Rattle.epic_app.specs.RunReport.{run_text, has_alarm, run_alarms}

@@ -5,7 +5,7 @@ use Rattle.epic_capture.specs.Saving.{file_head}
 use Rattle.epic_words.specs.Request.{RunRequest}
 use Rattle.epic_app.specs.declared.keeping.Keeping.{Keeping}
 use Rattle.epic_app.specs.Kept.{Kept}
-use Rattle.epic_app.specs.Ledgers.{step_ledger, step_verdicts}
+use Rattle.epic_rerun.specs.Ledgers.{step_ledger, step_verdicts}
 use Rattle.epic_app.specs.Saved.{saved_in}
 
 -- the capture of what is emitted

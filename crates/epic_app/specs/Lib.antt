@@ -12,7 +12,6 @@ pub mod HopReport
 pub mod Keeping
 pub mod Kept
 pub mod KeptFiles
-pub mod Ledgers
 pub mod Limits
 pub mod Noting
 pub mod Performing
