@@ -1,5 +1,6 @@
 pub mod Breaking
 pub mod Breaks
+pub mod FirstSent
 pub mod HopLines
 pub mod Known
 pub mod Sources

@@ -52,7 +52,7 @@ no_send q (Some s) e = absurd (cc)
 abbrev pub ByPacket : (Sent → Bool) → Contents → Bool → Type 0
 ByPacket q p b = (emission : ℕ) (segments : List ℕ) → b ≡ q (record { emission = emission; segments = segments; packet = p })
 
-decided : (q : Sent → Bool) (s : Sent) (r : ℕ × Contents) (b : Bool) → r ≡ sending s → ByPacket q r.1 b → b ≡ q s
+pub decided : (q : Sent → Bool) (s : Sent) (r : ℕ × Contents) (b : Bool) → r ≡ sending s → ByPacket q r.1 b → b ≡ q s
 decided q s r b same by = by s.emission s.segments ∙ ap (λ (k : ℕ × Contents). q (record { emission = s.emission; segments = s.segments; packet = k.1 })) same
 
 pub source_by : (f : Facts) (x : HopName) (p : Contents) (j : ℕ) (o : Option Sent) (r : ℕ × Contents) (like : Bool) (name : Option HopName) (result : Option ℕ)

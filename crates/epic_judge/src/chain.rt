@@ -1,7 +1,8 @@
 //! Whether a hop is chained to the one that was passed before it.
-ghost use Rattle.std.specs.Prelude.{◌≡◌, ◌+◌, ◌<◌, ◌∷◌, drop, length};
+ghost use Rattle.std.specs.Prelude.{◌≡◌, ◌+◌, ◌<◌, ◌∷◌, drop, false, length};
 ghost use Rattle.std.specs.List.{list_any};
-ghost use Rattle.epic_num.specs.Chains.{name_of};
+ghost use Rattle.std.specs.Option.{option_map_or};
+ghost use Rattle.epic_num.specs.Chains.{issue_at, name_of};
 ghost use Rattle.epic_layout.specs.Contents.{hop_count};
 ghost use Rattle.epic_ledger.specs.Facts.{facts_of};
 ghost use Rattle.epic_audit.specs.Clauses.{higher, lower};
@@ -34,9 +35,20 @@ fn is_named(index: &Index<'_>, number: u32, z: &HopName) -> bool
     }
 }
 
-/// Whether some issue of `y` goes on from one of `z`.
+/// Whether the issue of a number is one of `y` and goes on from one of `z`.
 #[tactic(auto, unfolding(epic_audit::specs::Verdicts::is_child))]
-fn goes_on(index: &Index<'_>, y: &HopName, z: &HopName) -> bool
+fn is_child(index: &Index<'_>, number: u32, y: &HopName, z: &HopName) -> bool
+    ensures { let issues = (facts_of index.now.history).issues in result ≡ option_map_or (verdicts.is_child issues y.now z.now) (issue_at issues number) false }
+{
+    match index.issue(number) {
+        Some((name, parent)) => same_name(&name, y) && is_named(index, parent, z),
+        None => false,
+    }
+}
+
+/// Whether some issue of `y` goes on from one of `z`, by a walk.
+#[tactic(auto, unfolding(epic_audit::specs::Verdicts::is_child))]
+fn walk_to_child(index: &Index<'_>, y: &HopName, z: &HopName) -> bool
     ensures { result ≡ list_any (verdicts.is_child (facts_of index.now.history).issues y.now z.now) (facts_of index.now.history).issues }
 {
     for at in 0..index.issues() {
@@ -46,6 +58,14 @@ fn goes_on(index: &Index<'_>, y: &HopName, z: &HopName) -> bool
         }
     }
     false
+}
+
+/// Whether some issue does, of which the one of this number is looked at first.
+#[tactic(auto, using(crate::proofs::Breaking::child_there))]
+fn goes_on(index: &Index<'_>, number: u32, y: &HopName, z: &HopName) -> bool
+    ensures { result ≡ list_any (verdicts.is_child (facts_of index.now.history).issues y.now z.now) (facts_of index.now.history).issues }
+{
+    is_child(index, number, y, z) || walk_to_child(index, y, z)
 }
 
 /// The name of the parent of an issue.
@@ -67,7 +87,7 @@ fn broken_between(index: &Index<'_>, y: &HopName, z: &HopName) -> Option<(HopNam
     ensures { result ≡ verdicts.broken_between (facts_of index.now.history).issues y.now z.now }
 {
     let number = index.issue_of(y)?;
-    if goes_on(index, y, z) {
+    if goes_on(index, number, y, z) {
         return None;
     }
     Some((*z, parent_name(index, number)))

@@ -2,6 +2,7 @@
 #![tactic(auto)]
 
 mod chain;
+mod firsts;
 mod hop_line;
 mod hop_tests;
 mod reveals;

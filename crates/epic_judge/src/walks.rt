@@ -16,41 +16,15 @@ ghost use Rattle.epic_index.specs.Events.{send_at, sent_name_at};
 ghost use Rattle.epic_judging.specs.Given as given;
 ghost use Rattle.epic_judge.specs.Walks.{like_answer, made_at, source_answer};
 
+use crate::firsts::{emission_if, first_name, first_source, is_sent, is_sent_like, name_if};
 use crate::tags::is_twin;
 use epic_fields::hop_message;
 use epic_index::Index;
-use epic_num::{AsId, HopName, HostId, is_tagged, same_as, same_host, same_name};
+use epic_num::{AsId, HopName, HostId, is_tagged, same_as, same_host};
 use epic_topo::Topology;
 use epic_view::PacketRef;
 
-/// Whether the sent packet has the source, the timestamp and the first byte of the packet.
-#[tactic(auto, unfolding(epic_audit::specs::Clauses::is_sent_like, epic_ledger::specs::Queries::is_send_of))]
-fn is_sent_like(packet: &PacketRef<'_>, sent: &PacketRef<'_>) -> bool
-    ensures { (emission : ℕ) (segments : List ℕ) → result ≡ is_sent_like packet.now (record { emission = emission; segments = segments; packet = sent.now }) }
-{
-    same_host(sent.src(), packet.src())
-        && sent.ts() == packet.ts()
-        && sent.first_byte() == packet.first_byte()
-}
-
 // ---- a hop of the packet that its source sent
-
-/// The emission, if the packet is like it and the name is that of `x`.
-fn emission_if(like: bool, name: Option<HopName>, x: &HopName, emission: u32) -> Option<u32>
-    ensures { result ≡ (if like && is_named x.now name then Some emission else None) }
-{
-    match name {
-        Some(other) if like && same_name(&other, x) => Some(emission),
-        _ => None,
-    }
-}
-
-/// The name, if the packet is like it.
-fn name_if(like: bool, name: Option<HopName>) -> Option<Option<HopName>>
-    ensures { result ≡ (if like then Some name else None) }
-{
-    if like { Some(name) } else { None }
-}
 
 /// The name, if it is of another hop of the AS of `x` that has its authenticator.
 fn if_twin(topo: &Topology, x: &HopName, name: Option<HopName>) -> Option<HopName>
@@ -82,8 +56,9 @@ fn source_at(
     }
 }
 
-/// The emission of the first packet that the packet's source sent with its first byte and timestamp over the hop `x`.
-pub fn source_of(index: &Index<'_>, x: &HopName, packet: &PacketRef<'_>, hop: u8) -> Option<u32>
+/// The emission of the first packet that the packet's source sent with its first byte and timestamp over the hop `x`, by a
+/// walk.
+fn walk_to_source(index: &Index<'_>, x: &HopName, packet: &PacketRef<'_>, hop: u8) -> Option<u32>
     ensures { result ≡ option_map (λ s. s.emission) (verdicts.source_of (facts_of index.now.history) x.now packet.now hop) }
 {
     for number in 0..index.events() {
@@ -93,6 +68,19 @@ pub fn source_of(index: &Index<'_>, x: &HopName, packet: &PacketRef<'_>, hop: u8
         }
     }
     None
+}
+
+/// This emission. Of a source's first packet with a timestamp, which is mostly its only one, no walk is needed.
+pub fn source_of(index: &Index<'_>, x: &HopName, packet: &PacketRef<'_>, hop: u8) -> Option<u32>
+    ensures { result ≡ option_map (λ s. s.emission) (verdicts.source_of (facts_of index.now.history) x.now packet.now hop) }
+{
+    if !is_sent(index, packet) {
+        return None;
+    }
+    match first_source(index, x, packet, hop) {
+        Some(emission) => Some(emission),
+        None => walk_to_source(index, x, packet, hop),
+    }
 }
 
 /// The name of the hop of the packet that the event sent, if the packet's source sent by it a packet like this one.
@@ -113,8 +101,8 @@ fn like_at(
     }
 }
 
-/// The name of the hop of the first packet that the packet's source sent with its first byte and timestamp.
-fn first_like(index: &Index<'_>, packet: &PacketRef<'_>, hop: u8) -> Option<Option<HopName>>
+/// The name of the hop of the first packet that the packet's source sent with its first byte and timestamp, by a walk.
+fn walk_to_like(index: &Index<'_>, packet: &PacketRef<'_>, hop: u8) -> Option<Option<HopName>>
     ensures { let f = facts_of index.now.history in result ≡ option_map (λ s. sent_name f.issues s hop) (find (is_sent_like packet.now) f.sends) }
 {
     for number in 0..index.events() {
@@ -124,6 +112,19 @@ fn first_like(index: &Index<'_>, packet: &PacketRef<'_>, hop: u8) -> Option<Opti
         }
     }
     None
+}
+
+/// This name, without a walk where the source's first packet with the timestamp is the one.
+fn first_like(index: &Index<'_>, packet: &PacketRef<'_>, hop: u8) -> Option<Option<HopName>>
+    ensures { let f = facts_of index.now.history in result ≡ option_map (λ s. sent_name f.issues s hop) (find (is_sent_like packet.now) f.sends) }
+{
+    if !is_sent(index, packet) {
+        return None;
+    }
+    match first_name(index, packet, hop) {
+        Some(name) => Some(name),
+        None => walk_to_like(index, packet, hop),
+    }
 }
 
 /// The hop that this packet has in the place of `x`, where it is another of the same AS and authenticator.

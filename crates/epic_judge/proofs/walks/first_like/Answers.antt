@@ -1,18 +1,8 @@
-use Rattle.std.proofs.Common.{sym, ◌∙◌, ap, arith}
+use Rattle.std.proofs.Common.{sym, ◌∙◌}
 use Rattle.epic_ledger.specs.Facts.{facts_of}
-use Rattle.epic_judge.specs.Walks.{like_answer}
-use Rattle.epic_judge.proofs.Sources.{like_first}
-use Rattle.epic_judge.proofs.Walking.{hit, next, past}
+use Rattle.epic_judge.proofs.FirstSent.{no_like}
 use Rattle.epic_judge.proofs.walks.first_like.Goals as goal
 
-pub loop-number-init : goal.loop-number-init
-loop-number-init c = like_first c.args.index.now.history c.args.packet.now c.args.hop
-
-pub loop-number-preserved : goal.loop-number-preserved
-loop-number-preserved c = next _ c.args.index.now.history c.loop-number.number _ c.loop-number.invariant (sym c.in-None.is ∙ c.like_at.ensures)
-
-pub returns-in-Some : goal.returns-in-Some
-returns-in-Some c = hit _ c.args.index.now.history c.loop-number.number _ c.loop-number.invariant c.in-Some.name (sym c.in-Some.is ∙ c.like_at.ensures)
-
-pub returns : goal.returns
-returns c = past _ c.args.index.now.history c.loop-number.number _ c.loop-number.invariant (omega (arith, c.events-number-end.ensures))
+pub returns-then-not-is_sent : goal.returns-then-not-is_sent
+returns-then-not-is_sent c =
+    no_like (facts_of c.args.index.now.history) c.args.packet.now c.args.hop (sym c.is_sent.ensures ∙ c.if-not-is_sent.true)

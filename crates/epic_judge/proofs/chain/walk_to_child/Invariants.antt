@@ -2,7 +2,7 @@ use Rattle.std.proofs.Common.{◌≡◌, drop}
 use Rattle.std.specs.List.{list_any}
 use Rattle.epic_ledger.specs.Facts.{facts_of}
 use Rattle.epic_audit.specs.Verdicts.{is_child}
-use Rattle.epic_judge.proofs.chain.goes_on.Given as goal
+use Rattle.epic_judge.proofs.chain.walk_to_child.Given as goal
 
 abbrev pub invariant-loop-at : goal.invariant-loop-at
 invariant-loop-at l =

@@ -4,7 +4,7 @@ use Rattle.epic_ledger.specs.Facts.{facts_of, sent_name}
 use Rattle.epic_audit.specs.Clauses.{is_sent_like}
 use Rattle.epic_audit.specs.Searches.{find_map}
 use Rattle.epic_judge.specs.Walks.{sends_from, like_answer}
-use Rattle.epic_judge.proofs.walks.first_like.Given as goal
+use Rattle.epic_judge.proofs.walks.walk_to_like.Given as goal
 
 abbrev pub invariant-loop-number : goal.invariant-loop-number
 invariant-loop-number l =

@@ -4,7 +4,7 @@ use Rattle.epic_ledger.specs.Facts.{facts_of}
 use Rattle.epic_audit.specs.Searches.{find_map}
 use Rattle.epic_audit.specs.Verdicts.{source_of}
 use Rattle.epic_judge.specs.Walks.{sends_from, source_answer}
-use Rattle.epic_judge.proofs.walks.source_of.Given as goal
+use Rattle.epic_judge.proofs.walks.walk_to_source.Given as goal
 
 abbrev pub invariant-loop-number : goal.invariant-loop-number
 invariant-loop-number l =
