@@ -28,7 +28,7 @@ all_there P [] n x h e = absurd (cc)
 all_there P (y ∷ ys) zero x h e = subst P (same_Some y x e) (All-head P y ys h)
 all_there P (y ∷ ys) (suc n) x h e = all_there P ys n x (All-tail P y ys h) e
 
-all_found : {X : Type 0} (P : X → Type 0) (q : X → Bool) (xs : List X) (x : X) → All P xs → find q xs ≡ Some x → P x
+pub all_found : {X : Type 0} (P : X → Type 0) (q : X → Bool) (xs : List X) (x : X) → All P xs → find q xs ≡ Some x → P x
 all_found P q [] x h e = absurd (cc)
 all_found {X} P q (y ∷ ys) x h e = by (q y) (all_found P q ys x (All-tail P y ys h)) e
   where
@@ -37,10 +37,10 @@ all_found {X} P q (y ∷ ys) x h e = by (q y) (all_found P q ys x (All-tail P y 
     by false rest k = rest k
 
 -- of the AS of a name
-abbrev IsOf : Network → HopName → Type 0
+abbrev pub IsOf : Network → HopName → Type 0
 IsOf t x = IsTrue (has t x.asn)
 
-issue_known : (t : Network) (issues : List Issue) (number : ℕ) (x : HopName) → All (λ i. IsOf t i.name) issues → name_of issues number ≡ Some x → IsOf t x
+pub issue_known : (t : Network) (issues : List Issue) (number : ℕ) (x : HopName) → All (λ i. IsOf t i.name) issues → name_of issues number ≡ Some x → IsOf t x
 unfolding name_of issue_at
 issue_known t issues number x h e = by (number == 0) e
   where

@@ -61,7 +61,7 @@ and_true : (a b : Bool) → b ≡ true → (a && b) ≡ a
 and_true true b e = e
 and_true false b e = refl
 
-same_forged : (w v : ToldForgery) (k : KeyName) (m n g h : List ℕ) → same_told (lines.Forged w k m g) (lines.Forged v k n h) ≡ (same_what w v && bytes_eq m n && bytes_eq g h)
+pub same_forged : (w v : ToldForgery) (k : KeyName) (m n g h : List ℕ) → same_told (lines.Forged w k m g) (lines.Forged v k n h) ≡ (same_what w v && bytes_eq m n && bytes_eq g h)
 unfolding same_told
 same_forged w v k m n g h = ap (λ (b : Bool). b && bytes_eq m n && bytes_eq g h) (and_true (same_what w v) (same_key k k) ((same_key-Decides k k).1 refl))
 

@@ -1,7 +1,11 @@
 pub mod Breaking
 pub mod Breaks
+pub mod ByPieces
+pub mod DestLines
+pub mod DestWalking
 pub mod FirstSent
 pub mod HopLines
 pub mod Known
+pub mod SentAs
 pub mod Sources
 pub mod Walking

@@ -1,3 +1,5 @@
+pub mod Compared
 pub mod Known
 pub mod Lines
+pub mod Sendings
 pub mod Walks

@@ -1,7 +1,13 @@
-//! The judge: whether a line of a verdict file is true of an accepted hop, over the lines of a ledger file before it.
+//! The judge: whether a line of a verdict file is true of an accepted hop, or of a packet at its
+//! destination, over the lines of a ledger file before it.
 #![tactic(auto)]
 
 mod chain;
+mod dest_bytes;
+mod dest_line;
+mod dest_sent;
+mod dest_tests;
+mod dest_walks;
 mod firsts;
 mod hop_line;
 mod hop_tests;
@@ -10,4 +16,5 @@ mod tags;
 mod telling;
 mod walks;
 
+pub use dest_line::is_true_at_dest;
 pub use hop_line::is_true_at_hop;

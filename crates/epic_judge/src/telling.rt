@@ -4,6 +4,8 @@ ghost use Rattle.epic_num.specs.Levels.{is_tagged};
 ghost use Rattle.epic_num.specs.Messages.{authenticator_message};
 ghost use Rattle.epic_layout.specs.Route.{body};
 ghost use Rattle.epic_layout.specs.Contents.{field, hop_count};
+ghost use Rattle.epic_layout.specs.Spelling.{dest_message};
+ghost use Rattle.epic_layout.specs.Updates.{own_updates};
 ghost use Rattle.epic_topo.specs.Network.{has};
 ghost use Rattle.epic_keys.specs.Keys as keys;
 ghost use Rattle.epic_fields.specs.PacketTags as packet_tags;
@@ -14,6 +16,7 @@ ghost use Rattle.epic_judging.specs.Telling as telling;
 ghost use Rattle.epic_record.specs.declared.told.Told.TheVariants as lines;
 ghost use Rattle.epic_record.specs.declared.told.ToldForgery.TheVariants as forgeries;
 
+use crate::dest_bytes::is_dest_message;
 use epic_fields::{field_name, hop_message, link, sigma};
 use epic_keys::owner;
 use epic_num::{
@@ -174,6 +177,40 @@ pub fn tells_field_forged(
     matches!(what, ToldForgery::Field)
         && is_hop_message(topo, packet, forgery, message)
         && is_field(packet, forgery.hop, tag)
+}
+
+// ---- forgeries at destinations
+
+/// Whether a line that begins `forged update` tells of the hop's update, with its message and its tag.
+pub fn tells_update_forged(
+    topo: &Topology,
+    packet: &PacketRef<'_>,
+    forgery: &Forgery,
+    message: &[u8],
+    tag: &[u8],
+) -> bool
+    requires hop { forgery.now.hop < hop_count packet.now }
+    requires owner { IsTrue (has topo.now (keys.owner forgery.now.key)) }
+    requires tagged { IsTrue (is_tagged packet.now.first) }
+    ensures { result ≡ (bytes_eq (packet_tags.hop_message topo.now (forged_text.forged_hop packet.now forgery.now) packet.now forgery.now.hop) message.now && bytes_eq (field packet.now forgery.now.hop) tag.now) }
+{
+    is_hop_message(topo, packet, forgery, message) && is_field(packet, forgery.hop, tag)
+}
+
+/// Whether a line that begins `forged` tells of the destination field, with its message and its tag.
+#[tactic(auto, unfolding(epic_judging::specs::Same::same_what))]
+pub fn tells_dest_forged(
+    packet: &PacketRef<'_>,
+    what: &ToldForgery,
+    message: &[u8],
+    tag: &[u8],
+) -> bool
+    requires { IsTrue (is_tagged packet.now.first) }
+    ensures { result ≡ (same_what forgeries.Dest what.now && bytes_eq (dest_message packet.now (own_updates packet.now)) message.now && bytes_eq packet.now.dest_field tag.now) }
+{
+    matches!(what, ToldForgery::Dest)
+        && is_dest_message(packet, message)
+        && packet.dest_field().as_slice() == tag
 }
 
 // ---- collisions
