@@ -1,11 +1,17 @@
+pub mod BothLaws
 pub mod Breaking
 pub mod Breaks
 pub mod ByPieces
+pub mod ClaimLaws
 pub mod DestLines
 pub mod DestWalking
 pub mod FirstSent
 pub mod HopLines
 pub mod Known
+pub mod Named
+pub mod NextLine
+pub mod Placed
 pub mod SentAs
+pub mod SoundLaws
 pub mod Sources
 pub mod Walking
