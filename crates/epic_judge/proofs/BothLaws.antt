@@ -1,13 +1,9 @@
 -- Both files, line by line.
-use Rattle.std.proofs.Common.{◌≡◌, ◌⊎◌, inl, inr, ℕ, zero, suc, ◌+◌, ◌<◌, ◌≤◌, Bool, true, false, List, [], ◌∷◌, ◌++◌, map, length, take, drop, refl, sym, ap, subst, ◌∙◌, arith, append-nil, append_assoc, length-append}
-use Rattle.std.specs.Prelude.{nat_lt, position, Option, Some, None, filter_map, slice_get, Result, Ok, Err, if◌then◌else◌, ⊤}
-use Rattle.std.specs.Bool.{Decides}
+use Rattle.std.proofs.Common.{◌≡◌, ℕ, ◌+◌, ◌<◌, ◌≤◌, Bool, true, false, List, [], ◌∷◌, ◌++◌, map, length, take, drop, refl, sym, ap, subst, ◌∙◌, arith, append-nil, append_assoc}
+use Rattle.std.specs.Prelude.{nat_lt, ◌==◌, position, Option, Some, None, filter_map, Result, Ok, Err, if◌then◌else◌}
 use Rattle.std.specs.List.{cons_option}
-use Rattle.std.proofs.lemmas.Bool.{cases_order}
-use Rattle.std.proofs.lemmas.Bool.Decides.{nat_tests, not_from_Decides}
+use Rattle.std.proofs.lemmas.Bool.Decides.{nat_tests}
 use Rattle.std.proofs.lemmas.List.Elements.{filter_map-append}
-use Rattle.std.proofs.lemmas.Option.{same_Some, slice_get_within}
-use Rattle.epic_num.proofs.ChainLaws.{slice_get-append, slice_get-seam}
 use Rattle.epic_num.specs.declared.passed.Place.{Place}
 use Rattle.epic_layout.specs.Layout.{parse}
 use Rattle.epic_topo.specs.Network.{Network}
@@ -19,7 +15,6 @@ use Rattle.epic_audit.specs.Holds.{AtDest, AtHop}
 use Rattle.epic_text.specs.Lines.{is_line_feed, parts}
 use Rattle.epic_text.proofs.Parts.{parts_none, parts_some}
 use Rattle.epic_index.specs.Indexes.{Indexed}
-use Rattle.epic_record.specs.declared.fault.FileError.{FileError}
 use Rattle.epic_record.specs.declared.fault.FileKind.{FileKind}
 use Rattle.epic_record.specs.declared.fault.FileKind.TheVariants.{BadPlace, Extra, TooLong}
 use Rattle.epic_record.specs.declared.item.Item.{Item}
@@ -28,17 +23,15 @@ use Rattle.epic_record.specs.declared.told.Told.{Told}
 use Rattle.epic_record.specs.LedgerCheck.{counted}
 use Rattle.epic_record.specs.LedgerFile.{Fault, as_emission, as_event, history_in, is_placed, items_after, ledger_file, most_ledger, on_line, placed}
 use Rattle.epic_record.specs.LedgerLine.{item_of}
-use Rattle.epic_record.specs.VerdictFile.{most_verdicts, told_after, verdict_file, with_told}
+use Rattle.epic_record.specs.VerdictFile.{most_verdicts, told_after, verdict_file}
 use Rattle.epic_record.specs.VerdictLines.{Acceptance, accepted_by, acceptances}
 use Rattle.epic_judging.specs.declared.judged.Judged.{Judged}
-use Rattle.epic_judging.specs.declared.judged.Judged.TheVariants.{Yes, No}
 use Rattle.epic_judging.specs.declared.judged.JudgeError.{JudgeError}
 use Rattle.epic_judging.specs.declared.judged.JudgeError.TheVariants.{Ledger, Verdicts, OutOfMemory}
-use Rattle.epic_judging.specs.Judging.{IsTrueOf, told_true}
-use Rattle.epic_judging.specs.Judgment.{AllTrue, Claim, FirstFalse, IsAnswer, IsJudgment, IsSaid, IsTrueClaim, accepted_after, claims, claims_in, with_ledger, with_verdicts}
+use Rattle.epic_judging.specs.Judgment.{Claim, IsAnswer, IsJudgment, IsSaid, accepted_after, claims_in, with_ledger, with_verdicts}
 use Rattle.epic_judging.specs.Laws.{JudgmentsAreDecided}
 use Rattle.epic_judge.specs.BothFiles.{AreItems, HasItems, IsChecked, IsFirst, Judging, answered, claims_after, said}
-use Rattle.epic_judge.specs.Reaching.{AreJudged, AreRefused, IsFew, IsPlacedLine, IsReached, Judges, Reached, accepted_in, first_after, line_more}
+use Rattle.epic_judge.specs.Reaching.{AreRefused, IsPlacedLine, IsReached, Reached, accepted_in, line_more}
 use Rattle.epic_judge.specs.Sound.{IsSound, history_more}
 use Rattle.epic_judge.proofs.ClaimLaws.{taken}
 use Rattle.epic_judge.proofs.SoundLaws.{sound_more, sound_none}
@@ -227,7 +220,7 @@ module _ (t : Network) (ledger verdicts rest line after : List ℕ) (at : Reache
   -- what both files tell, with the next line
   told_next : claims_in t ledger verdicts
       ≡ claims_after j.judged (map (λ a. (f, a)) (accepted_by next.item) ++ accepted_after (j.before ++ next.item ∷ []) next.others)
-          (told_after (at.number + 1) (accepted_by next.item ++ acceptances next.others) (parts at.rest))
+      (told_after (at.number + 1) (accepted_by next.item ++ acceptances next.others) (parts at.rest))
   unfolding acceptances
   told_next = j.told ∙ ap (λ m. claims_after j.judged (accepted_after j.before m) (told_after (at.number + 1) (acceptances m) (parts at.rest))) next.all
 
@@ -256,7 +249,7 @@ module _ (t : Network) (ledger verdicts rest line after : List ℕ) (at : Reache
   line_refused (Verdicts number kind) h =
       told_next
       ∙ refused j.judged f next.item at (number, kind) (accepted_after (j.before ++ next.item ∷ []) next.others) (acceptances next.others)
-        (over_lines (accepted_by next.item) (Err (Verdicts number kind)) these h)
+      (over_lines (accepted_by next.item) (Err (Verdicts number kind)) these h)
 
 -- ---- the end
 
@@ -278,6 +271,11 @@ over h = grind (arith, nat_tests)
 nothing : (text : List ℕ) → nat_lt 0 (length text) ≡ false → text ≡ []
 nothing [] h = refl
 nothing (byte ∷ text) h = absurd (grind (arith, nat_tests))
+
+-- where the loop ends
+pub emptied : (text : List ℕ) (is_empty : Bool) → is_empty ≡ (length text == 0) → is_empty ≡ true → text ≡ []
+emptied [] is_empty is over = refl
+emptied (byte ∷ text) is_empty is over = absurd (grind (arith, nat_tests))
 
 -- no line of the ledger file is left
 module _ (t : Network) (ledger verdicts : List ℕ) (at : Reached) (x : Indexed) (j : Judging t ledger verdicts [] at x) where

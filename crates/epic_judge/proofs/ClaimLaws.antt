@@ -1,6 +1,6 @@
 -- One claim more.
-use Rattle.std.proofs.Common.{◌≡◌, inl, inr, ℕ, suc, ◌+◌, ◌<◌, Bool, true, false, List, [], ◌∷◌, ◌++◌, map, length, refl, sym, ap, subst, ◌∙◌, arith, append_assoc, length-append}
-use Rattle.std.specs.Prelude.{Option, Some, None, slice_get, Result, Ok, Err, if◌then◌else◌, ⊤}
+use Rattle.std.proofs.Common.{◌≡◌, inl, inr, ℕ, ◌+◌, ◌<◌, Bool, true, false, List, [], ◌∷◌, ◌++◌, map, length, refl, sym, ap, subst, ◌∙◌, arith, append_assoc, length-append}
+use Rattle.std.specs.Prelude.{Option, Some, None, slice_get, Result, Ok, Err}
 use Rattle.std.specs.Bool.{Decides}
 use Rattle.std.proofs.lemmas.Bool.{cases_order}
 use Rattle.std.proofs.lemmas.Bool.Decides.{not_from_Decides}
@@ -13,9 +13,9 @@ use Rattle.epic_record.specs.declared.item.Item.{Item}
 use Rattle.epic_record.specs.declared.item.Item.TheVariants as items
 use Rattle.epic_record.specs.declared.told.Told.{Told}
 use Rattle.epic_record.specs.LedgerFile.{Fault}
-use Rattle.epic_record.specs.VerdictFile.{most_verdicts, told_after, with_told}
+use Rattle.epic_record.specs.VerdictFile.{told_after, with_told}
 use Rattle.epic_record.specs.VerdictLines.{Acceptance, accepted_by}
-use Rattle.epic_judging.specs.Judging.{IsTrueOf, told_true}
+use Rattle.epic_judging.specs.Judging.{told_true}
 use Rattle.epic_judging.specs.Judgment.{AllTrue, Claim, FirstFalse, IsTrueClaim, claims}
 use Rattle.epic_judging.specs.Laws.{JudgmentsAreDecided}
 use Rattle.epic_judge.specs.BothFiles.{IsFirst, claims_after}

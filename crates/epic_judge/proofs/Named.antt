@@ -1,5 +1,5 @@
 -- The hops that a line names are of ASes that have a name.
-use Rattle.std.proofs.Common.{◌≡◌, ◌≢◌, ℕ, ◌+◌, ◌/◌, ◌^◌, ◌≤◌, Bool, true, false, List, [], ◌∷◌, refl, ap, subst, arith}
+use Rattle.std.proofs.Common.{◌≡◌, ◌≢◌, ℕ, ◌+◌, Bool, true, false, List, [], ◌∷◌, refl, ap, subst, arith}
 use Rattle.std.specs.Prelude.{◌==◌, Option, Some, None, option_map, Result, Ok, Err, codes, bytes_eq, if◌then◌else◌, ⊤}
 use Rattle.std.specs.List.{list_all}
 use Rattle.std.proofs.lemmas.Option.{same_Some}
@@ -9,11 +9,11 @@ use Rattle.epic_num.specs.declared.key_name.KeyName.{KeyName}
 use Rattle.epic_num.specs.declared.name.AsId.{AsId}
 use Rattle.epic_num.specs.declared.verdict.Part.{Part}
 use Rattle.epic_num.specs.declared.verdict.Part.TheVariants.{Link, Sigma}
-use Rattle.epic_num.specs.Names.{as_of, number_within, isd_part}
+use Rattle.epic_num.specs.Names.{as_of, number_within}
 use Rattle.epic_num.proofs.OneSpelling.{as_spelling}
 use Rattle.epic_text.specs.RunScript.{as_named, bytes_of, most8, most32}
 use Rattle.epic_record.specs.declared.fault.FileKind.{FileKind}
-use Rattle.epic_record.specs.declared.fault.FileKind.TheVariants.{BadPlace, BadWord, NotText, UnknownVerb, WordCount}
+use Rattle.epic_record.specs.declared.fault.FileKind.TheVariants.{BadPlace, NotText, UnknownVerb}
 use Rattle.epic_record.specs.declared.told.Told.{Told}
 use Rattle.epic_record.specs.declared.told.Told.TheVariants as told
 use Rattle.epic_record.specs.declared.told.ToldForgery.{ToldForgery}

@@ -1,6 +1,7 @@
 -- The next line of the verdict file judges the next acceptance.
-use Rattle.std.proofs.Common.{◌≡◌, ℕ, ◌+◌, ◌<◌, Bool, true, false, List, [], ◌∷◌, length, refl, sym, ap, subst, ◌∙◌}
-use Rattle.std.specs.Prelude.{◌||◌, not, Option, Some, None, is_none, Result, Ok, Err, if◌then◌else◌}
+use Rattle.std.proofs.Common.{◌≡◌, ℕ, ◌+◌, ◌<◌, Bool, true, false, List, [], ◌∷◌, length, refl, ap, ◌∙◌, arith}
+use Rattle.std.specs.Prelude.{◌||◌, not, Option, Some, None, is_none, is_some, ◌==◌, Result, Ok, Err}
+use Rattle.std.proofs.lemmas.Bool.Decides.{nat_tests}
 use Rattle.epic_topo.specs.Network.{Network}
 use Rattle.epic_ledger.specs.Facts.{Facts}
 use Rattle.epic_text.specs.Lines.{parts}
@@ -9,11 +10,12 @@ use Rattle.epic_record.specs.declared.fault.FileKind.TheVariants.{Missing}
 use Rattle.epic_record.specs.declared.fault.LineError.{LineError}
 use Rattle.epic_record.specs.declared.fault.LineError.TheVariants as line_error
 use Rattle.epic_record.specs.declared.told.Told.{Told}
-use Rattle.epic_record.specs.LedgerFile.{Fault, on_line}
+use Rattle.epic_record.specs.LedgerFile.{on_line}
 use Rattle.epic_record.specs.VerdictFile.{told_after, told_in, with_told}
 use Rattle.epic_record.specs.VerdictLines.{Acceptance}
+use Rattle.epic_record.specs.Words.{IsLine}
 use Rattle.epic_judging.specs.Judging.{told_true}
-use Rattle.epic_judge.specs.Reaching.{AreRefused, IsReached, IsRead, Judges, Reached, behind, first_after}
+use Rattle.epic_judge.specs.Reaching.{AreRefused, IsReached, IsRead, Reached, behind, first_after}
 
 -- whether the line is true is asked only where none before it was false
 asked_first : (first : Option ℕ) (number : ℕ) (b : Bool) → first_after first number (not (is_none first) || b) ≡ first_after first number b
@@ -38,6 +40,22 @@ module _ (t : Network) (f : Facts) (a : Acceptance) (at : Reached) (line rest : 
   }
   behind_reached (Err (line_error.Refused kind)) shorter is = line_told (Err kind) is
   behind_reached (Err line_error.OutOfMemory) shorter is = is
+
+-- a line that isn't read
+pub unread : (t : Network) (f : Facts) (a : Acceptance) (asked : Bool) (line : List ℕ) (e : LineError) → IsLine (told_in a.subject line) (Err e) → IsRead t f a asked line (Err e)
+unread t f a asked line (line_error.Refused kind) h = h
+unread t f a asked line line_error.OutOfMemory h = h
+
+-- whether any was false so far
+pub asked_is : (first : Option ℕ) (asked : Bool) → is_some first ≡ not asked → asked ≡ is_none first
+asked_is None true e = refl
+asked_is None false e = absurd (cc)
+asked_is (Some k) true e = absurd (cc)
+asked_is (Some k) false e = refl
+
+pub nothing : (text : List ℕ) → true ≡ (length text == 0) → text ≡ []
+nothing [] h = refl
+nothing (byte ∷ text) h = absurd (grind (arith, nat_tests))
 
 -- no line is left
 pub none_left : (a : Acceptance) (at : Reached) → at.rest ≡ [] → AreRefused (a ∷ []) at (at.number + 1, Missing)

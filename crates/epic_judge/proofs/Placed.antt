@@ -1,13 +1,13 @@
 -- What the place of an acceptance says of its packet.
-use Rattle.std.proofs.Common.{◌≡◌, ℕ, ◌<◌, Bool, true, false, List, refl, sym, ap, subst, ◌∙◌, arith}
-use Rattle.std.specs.Prelude.{nat_lt, Option, Some, None, is_none, Result, Ok, Err, IsTrue}
+use Rattle.std.proofs.Common.{◌≡◌, ℕ, ◌<◌, true, List, refl, sym, subst, arith}
+use Rattle.std.specs.Prelude.{nat_lt, Option, Some, None, is_none, Result, Ok, Err, IsTrue, OnOk}
 use Rattle.std.proofs.lemmas.Bool.{and_parts}
 use Rattle.std.proofs.lemmas.Bool.Decides.{nat_tests}
 use Rattle.epic_num.specs.declared.layout_error.LayoutError.{LayoutError}
 use Rattle.epic_num.specs.declared.name.AsId.{AsId}
 use Rattle.epic_num.specs.declared.name.HostId.{HostId}
+use Rattle.epic_num.specs.declared.passed.Place.{Place}
 use Rattle.epic_num.specs.Levels.{is_first_byte}
-use Rattle.epic_num.specs.Same.{same_host}
 use Rattle.epic_num.specs.Tables.{unless}
 use Rattle.epic_num.proofs.SameLaws.{same_host-Decides}
 use Rattle.epic_layout.specs.Contents.{Contents, hop_count}
@@ -54,3 +54,15 @@ module _ (t : Network) (h : History) (host : HostId) (bytes : List ℕ) (p : is_
 
   pub dest_packet : is_packet bytes ≡ true
   dest_packet = (and_parts _ _ (and_parts _ _ p).0).1
+
+-- an emission that is placed has no fault
+pub emission_faultless : (t : Network) (h : History) (number : ℕ) (due : Place) (bytes : List ℕ) → is_placed t h (items.Emission number due bytes) ≡ true → fault is_first_byte bytes ≡ None
+emission_faultless t h number due bytes p = by (fault is_first_byte bytes) (and_parts _ _ p).1
+  where
+    by : (o : Option LayoutError) → is_none o ≡ true → o ≡ None
+    by None k = refl
+    by (Some f) k = absurd (cc)
+
+pub on_ok : {A E : Type 0} (r : Result A E) (P : Type 0) → P → OnOk r P
+on_ok (Ok a) P p = p
+on_ok (Err e) P p = tt

@@ -1,15 +1,13 @@
 -- What the place of a line says of the ledger with it.
-use Rattle.std.proofs.Common.{◌≡◌, ◌⊎◌, inl, inr, ℕ, zero, suc, ◌+◌, ◌-◌, ◌<◌, ◌≤◌, add-one, Bool, true, false, List, [], ◌∷◌, ◌++◌, length, refl, sym, ap, subst, ◌∙◌, arith, length-append, append-nil}
-use Rattle.std.specs.Prelude.{◌==◌, ◌&&◌, nat_lt, nat_le, Option, Some, None, option_map, slice_get, slice_index_or, IsSome, IsTrue, filter_map, if◌then◌else◌}
+use Rattle.std.proofs.Common.{◌≡◌, inl, inr, ℕ, zero, suc, ◌+◌, ◌-◌, ◌<◌, ◌≤◌, add-one, Bool, true, false, List, [], ◌∷◌, ◌++◌, length, refl, sym, ap, subst, ◌∙◌, arith, length-append, append-nil}
+use Rattle.std.specs.Prelude.{◌==◌, nat_lt, Option, Some, None, option_map, slice_get, slice_index_or, IsSome, IsTrue, filter_map, if◌then◌else◌}
 use Rattle.std.specs.List.{All, cons_option}
 use Rattle.std.specs.Option.{option_map_or}
 use Rattle.std.proofs.lemmas.Bool.{and_parts, cases_order}
 use Rattle.std.proofs.lemmas.Bool.Decides.{nat_tests}
 use Rattle.std.proofs.lemmas.List.Elements.{All-append, All-cons, All-head, All-nil, All-tail, filter_map-append}
 use Rattle.std.proofs.lemmas.Option.{none-some, same_Some}
-use Rattle.arrayvec.specs.ArrayVec.{ArrayVec}
 use Rattle.epic_num.specs.declared.hop.HopName.{HopName}
-use Rattle.epic_num.specs.declared.passed.Place.{Place}
 use Rattle.epic_num.specs.Chains.{Issue, chain, issue_at, last_names, name_of}
 use Rattle.epic_num.proofs.ChainLaws.{chain-append, issue_at-append, issue_at-next, issue_at-past, last_names-append}
 use Rattle.epic_layout.specs.declared.head.SegmentHead.{SegmentHead}
@@ -20,13 +18,13 @@ use Rattle.epic_ledger.specs.declared.event.Event.{Event}
 use Rattle.epic_ledger.specs.declared.event.Event.TheVariants as event
 use Rattle.epic_ledger.specs.Facts.{Pass, as_issue, as_pass, facts_of, issues_in, packet_at}
 use Rattle.epic_ledger.specs.History.{Emission, History, emission_at}
-use Rattle.epic_ledger.specs.Lawful.{Fits, FitsPass, FitsSend}
-use Rattle.epic_ledger.specs.OneMore.{with_event, with_emission}
+use Rattle.epic_ledger.specs.Lawful.{Fits}
+use Rattle.epic_ledger.specs.OneMore.{with_event}
 use Rattle.epic_ledger.proofs.Growing.{emission_at-suc}
 use Rattle.epic_index.specs.Twins.{IsIssuerIn}
 use Rattle.epic_record.specs.declared.item.Item.{Item}
 use Rattle.epic_record.specs.declared.item.Item.TheVariants as items
-use Rattle.epic_record.specs.LedgerFile.{are_lasts, due_as, goes_on, is_event_placed, is_newest, is_packet, is_placed}
+use Rattle.epic_record.specs.LedgerFile.{are_lasts, goes_on, is_event_placed, is_newest, is_placed}
 use Rattle.epic_judge.specs.Known.{AreKnown}
 use Rattle.epic_judge.specs.Sound.{AreChained, IsEventKnown, IsSound, history_more}
 

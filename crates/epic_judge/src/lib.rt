@@ -1,7 +1,8 @@
-//! The judge: whether a line of a verdict file is true of an accepted hop, or of a packet at its
-//! destination, over the lines of a ledger file before it.
+//! The judge: whether each line of a verdict file is true of its acceptance, over the lines of a ledger file before it.
 #![tactic(auto)]
 
+mod accepted;
+mod both_files;
 mod chain;
 mod dest_bytes;
 mod dest_line;
@@ -11,10 +12,13 @@ mod dest_walks;
 mod firsts;
 mod hop_line;
 mod hop_tests;
+mod ledger_lines;
+mod progress;
 mod reveals;
 mod tags;
 mod telling;
 mod walks;
 
+pub use both_files::{MAX_VERDICTS, judge};
 pub use dest_line::is_true_at_dest;
 pub use hop_line::is_true_at_hop;
