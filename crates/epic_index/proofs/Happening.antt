@@ -1,9 +1,9 @@
 -- That what events name is there, and that what they say doesn't depend on their steps.
-use Rattle.std.proofs.Common.{◌≡◌, ℕ, zero, suc, ◌-◌, List, [], ◌∷◌, length, take, Option, Some, None, refl, sym, ap, ◌∙◌, arith}
+use Rattle.std.proofs.Common.{◌≡◌, ℕ, zero, suc, List, [], ◌∷◌, length, take, Option, Some, None, refl, sym, ap, ◌∙◌, arith}
 use Rattle.std.specs.Prelude.{option_and_then, slice_get, IfSome}
 use Rattle.std.specs.Borrow.{Bor}
 use Rattle.std.specs.Option.{option_copied}
-use Rattle.epic_num.specs.Chains.{Issue, issue_at, ancestor}
+use Rattle.epic_num.specs.Chains.{Issue}
 use Rattle.epic_layout.specs.Contents.{Contents}
 use Rattle.epic_audit.specs.Searches.{passed_before}
 use Rattle.epic_ledger.specs.History.{History, Emission}
@@ -18,7 +18,7 @@ use Rattle.epic_index.specs.Stepping.{at_step, stepped}
 use Rattle.epic_index.proofs.Answering.{index_issues, index_passes}
 use Rattle.epic_index.proofs.Steps.{send_at_step, pass_at_step}
 
-there_of : (es : List Emission) (issues : List Issue) (e : Event) → Fits es issues e → IsThere es e
+pub there_of : (es : List Emission) (issues : List Issue) (e : Event) → Fits es issues e → IsThere es e
 there_of es issues (event.Issue step number name parent) h = tt
 there_of es issues (event.Fetch step source owner epoch) h = tt
 there_of es issues (event.Send step emission segments) h = h.there
@@ -48,7 +48,7 @@ got_stepped f same (s ∷ ss) [] n h = absurd (omega arith)
 got_stepped f same (s ∷ ss) (e ∷ es) zero h = same s e
 got_stepped f same (s ∷ ss) (e ∷ es) (suc n) h = got_stepped f same ss es n (omega arith)
 
-send_stepped : (h : History) (steps : List ℕ) (n : ℕ) → IsApart h steps → send_at (history_of h steps) n ≡ send_at h n
+pub send_stepped : (h : History) (steps : List ℕ) (n : ℕ) → IsApart h steps → send_at (history_of h steps) n ≡ send_at h n
 unfolding send_at
 send_stepped h steps n i = got_stepped (as_send h.emissions) (send_at_step h.emissions) steps h.events n i.count
 

@@ -1,8 +1,8 @@
 -- The places of a packet's hops among its segments.
-use Rattle.std.proofs.Common.{◌≡◌, ℕ, ◌+◌, ◌-◌, ◌<◌, ◌≤◌, Bool, true, false, cond, List, length, get_or, sym, subst, arith}
+use Rattle.std.proofs.Common.{◌≡◌, ℕ, ◌+◌, ◌-◌, ◌<◌, ◌≤◌, Bool, true, false, cond, length, get_or, sym, subst, arith}
 use Rattle.epic_layout.specs.Contents.{Contents, IsPacket, hop_count}
 use Rattle.epic_layout.specs.Laws.{IsPlaceOf}
-use Rattle.epic_layout.specs.Route.{place, position, no_segment, hops_of}
+use Rattle.epic_layout.specs.Route.{place, position, no_segment}
 use Rattle.epic_layout.specs.declared.head.HopPlace.{HopPlace}
 use Rattle.epic_layout.proofs.HopPlaces.{places_are_one}
 

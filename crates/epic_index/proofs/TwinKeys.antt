@@ -1,8 +1,6 @@
 -- An issue is found by its AS and authenticator.
-use Rattle.std.proofs.Common.{◌≡◌, ℕ, Bool, true, false, List, [], ◌∷◌, ◌++◌, length, Option, Some, None, bytes_eq, cond, nat_lt, refl, sym, ap, ◌∙◌, arith}
-use Rattle.std.specs.Prelude.{position, find, option_map, slice_get, ◌&&◌, ◌==◌}
-use Rattle.std.proofs.lemmas.Bool.Decides.{nat_tests}
-use Rattle.std.proofs.lemmas.Slice.Eq.{bytes_eq-Decides}
+use Rattle.std.proofs.Common.{◌≡◌, ℕ, Bool, true, false, List, [], ◌∷◌, ◌++◌, length, Option, Some, None, cond, nat_lt, sym, ap, ◌∙◌}
+use Rattle.std.specs.Prelude.{position, find, option_map, slice_get}
 use Rattle.epic_num.specs.Same.{same_as}
 use Rattle.epic_num.specs.Chains.{Issue}
 use Rattle.epic_num.specs.declared.hop.HopName.{HopName}
@@ -14,41 +12,27 @@ use Rattle.epic_audit.proofs.Finds.{missing_at}
 use Rattle.epic_ledger.specs.Facts.{as_issue, issues_in, facts_of}
 use Rattle.epic_ledger.specs.History.{History}
 use Rattle.epic_ledger.specs.declared.event.Event.{Event}
+use Rattle.epic_index.specs.Holding.{Held}
 use Rattle.epic_index.specs.Indexes.{history_of, IsIndexOf}
+use Rattle.epic_index.proofs.NameKeys.{eq_flip, bytes_flip}
 use Rattle.epic_index.specs.Stepping.{at_step}
-use Rattle.epic_index.specs.declared.reveals.RevealKey.{RevealKey}
 use Rattle.epic_index.proofs.Steps.{issue_at_step, issues_stepped}
 use Rattle.std.specs.List.{cons_option, position_or_len}
 use Rattle.std.proofs.lemmas.List.{map-append}
 use Rattle.std.proofs.lemmas.List.Elements.{filter_map-append}
 use Rattle.std.proofs.lemmas.List.Folds.{find_at}
 use Rattle.std.proofs.lemmas.Option.{same_Some}
-use Rattle.epic_index.specs.Twins.{twin_key, twin_keys}
+use Rattle.epic_index.specs.Twins.{twin_eq, twin_key, twin_keys}
 use Rattle.epic_index.specs.declared.twins.TwinKey.{TwinKey}
 
-abbrev key_eq : TwinKey → TwinKey → Bool
-key_eq k l = k.asn == l.asn && bytes_eq k.sigma l.sigma
-
-eq_flip : (a b : ℕ) → (a == b) ≡ (b == a)
-eq_flip a b = grind (arith, nat_tests)
-
-bytes_flip : (xs ys : List ℕ) → bytes_eq xs ys ≡ bytes_eq ys xs
-bytes_flip xs ys = by (bytes_eq xs ys) (bytes_eq ys xs) refl refl
-  where
-    by : (b c : Bool) → bytes_eq xs ys ≡ b → bytes_eq ys xs ≡ c → b ≡ c
-    by true true e f = refl
-    by false false e f = refl
-    by true false e f = sym ((bytes_eq-Decides ys xs).1 (sym ((bytes_eq-Decides xs ys).0 e))) ∙ f
-    by false true e f = sym e ∙ (bytes_eq-Decides xs ys).1 (sym ((bytes_eq-Decides ys xs).0 f))
-
-key_matches : (t : Network) (x y : HopName) → key_eq (twin_key t x) (twin_key t y) ≡ is_twin t x y
+key_matches : (t : Network) (x y : HopName) → twin_eq (twin_key t x) (twin_key t y) ≡ is_twin t x y
 unfolding twin_key is_twin same_as
 key_matches t x y = rw (eq_flip x.asn.0 y.asn.0, bytes_flip (sigma t x) (sigma t y))
 
-pub twin_found : (t : Network) (issues : List Issue) (keys : List TwinKey) (x : HopName) (key : TwinKey) (o : Option ℕ) → keys ≡ twin_keys t issues → key ≡ twin_key t x → o ≡ position (key_eq key) keys → o ≡ position (λ i. is_twin t x i.name) issues
+pub twin_found : (t : Network) (issues : List Issue) (keys : List TwinKey) (x : HopName) (key : TwinKey) (o : Option ℕ) → keys ≡ twin_keys t issues → key ≡ twin_key t x → o ≡ position (twin_eq key) keys → o ≡ position (λ i. is_twin t x i.name) issues
 twin_found t issues keys x key o e k f =
     f
-    ∙ rw (e, k) (position-map (key_eq (twin_key t x)) (λ (i : Issue). twin_key t i.name) issues)
+    ∙ rw (e, k) (position-map (twin_eq (twin_key t x)) (λ (i : Issue). twin_key t i.name) issues)
     ∙ ap (λ (q : Issue → Bool). position q issues) (λ i z. key_matches t x z.name i)
 
 issues_once : (e : Event) → issues_in (at_step 0 e ∷ []) ≡ issues_in (e ∷ [])
@@ -64,19 +48,19 @@ some_is : (b : Bool) (l i : ℕ) → cond b (Some l) None ≡ Some i → l ≡ i
 some_is true l i e = same_Some l i e
 some_is false l i e = absurd (cc)
 
-find_position : {X : Type 0} (p : X → Bool) (xs : List X) (i : ℕ) → position p xs ≡ Some i → find p xs ≡ slice_get xs i
+pub find_position : {X : Type 0} (p : X → Bool) (xs : List X) (i : ℕ) → position p xs ≡ Some i → find p xs ≡ slice_get xs i
 find_position p xs i e =
     find_at p xs ∙ ap (slice_get xs) (some_is (nat_lt (position_or_len p xs) (length xs)) (position_or_len p xs) i e)
 
-pub find_none : (t : Network) (h : History) (steps : List ℕ) (keys : List RevealKey) (twins : List TwinKey) (x : HopName) (key : TwinKey) (o : Option ℕ) → IsIndexOf t h steps keys twins → key ≡ twin_key t x → o ≡ position (key_eq key) twins → o ≡ None → None ≡ option_map (λ i. i.name) (find (λ i. is_twin t x i.name) (facts_of (history_of h steps)).issues)
+pub find_none : (t : Network) (h : History) (steps : List ℕ) (held : Held) (x : HopName) (key : TwinKey) (o : Option ℕ) → IsIndexOf t h steps held → key ≡ twin_key t x → o ≡ position (twin_eq key) held.twins → o ≡ None → None ≡ option_map (λ i. i.name) (find (λ i. is_twin t x i.name) (facts_of (history_of h steps)).issues)
 unfolding facts_of
-find_none t h steps keys twins x key o i k f n =
+find_none t h steps held x key o i k f n =
     rw (issues_stepped h steps i.apart.count)
-    (ap (option_map (λ (i : Issue). i.name)) (sym (missing_at (λ i. is_twin t x i.name) (issues_in h.events) (sym (twin_found t (issues_in h.events) twins x key o i.issued k f) ∙ n))))
+    (ap (option_map (λ (i : Issue). i.name)) (sym (missing_at (λ i. is_twin t x i.name) (issues_in h.events) (sym (twin_found t (issues_in h.events) held.twins x key o i.held_is.issued k f) ∙ n))))
 
-pub find_some : (t : Network) (h : History) (steps : List ℕ) (keys : List RevealKey) (twins : List TwinKey) (x : HopName) (key : TwinKey) (o : Option ℕ) (row : ℕ) (named : Option HopName) → IsIndexOf t h steps keys twins → key ≡ twin_key t x → o ≡ position (key_eq key) twins → o ≡ Some row → named ≡ option_map (λ i. i.name) (slice_get (facts_of (history_of h steps)).issues row) → named ≡ option_map (λ i. i.name) (find (λ i. is_twin t x i.name) (facts_of (history_of h steps)).issues)
+pub find_some : (t : Network) (h : History) (steps : List ℕ) (held : Held) (x : HopName) (key : TwinKey) (o : Option ℕ) (row : ℕ) (named : Option HopName) → IsIndexOf t h steps held → key ≡ twin_key t x → o ≡ position (twin_eq key) held.twins → o ≡ Some row → named ≡ option_map (λ i. i.name) (slice_get (facts_of (history_of h steps)).issues row) → named ≡ option_map (λ i. i.name) (find (λ i. is_twin t x i.name) (facts_of (history_of h steps)).issues)
 unfolding facts_of
-find_some t h steps keys twins x key o row named i k f n e =
+find_some t h steps held x key o row named i k f n e =
     rw (issues_stepped h steps i.apart.count)
     (rw (issues_stepped h steps i.apart.count) at e
-    ∙ ap (option_map (λ (i : Issue). i.name)) (sym (find_position (λ i. is_twin t x i.name) (issues_in h.events) row (sym (twin_found t (issues_in h.events) twins x key o i.issued k f) ∙ n))))
+    ∙ ap (option_map (λ (i : Issue). i.name)) (sym (find_position (λ i. is_twin t x i.name) (issues_in h.events) row (sym (twin_found t (issues_in h.events) held.twins x key o i.held_is.issued k f) ∙ n))))

@@ -6,7 +6,8 @@ use Rattle.std.specs.declared.cmp.Ordering.{Ordering}
 use Rattle.std.specs.declared.cmp.Ordering.TheVariants.{Less, Equal, Greater}
 use Rattle.epic_tree.proofs.Indexing.{same_number}
 
-first_equal : (o q : Ordering) → ordering_then o q ≡ Equal → o ≡ Equal
+-- where the whole is equal, so is the first part
+pub first_equal : (o q : Ordering) → ordering_then o q ≡ Equal → o ≡ Equal
 first_equal Less q e = absurd (cc)
 first_equal Equal q e = cc
 first_equal Greater q e = absurd (cc)

@@ -6,7 +6,7 @@ ghost use Rattle.epic_layout.specs.Contents.{hop_count};
 ghost use Rattle.epic_ledger.specs.Facts.{as_pass, as_send, facts_of, packet_at, pass_name, sent_name};
 ghost use Rattle.epic_ledger.specs.History.{emission_at};
 ghost use Rattle.epic_audit.specs.Searches as searches;
-ghost use Rattle.epic_index.specs.Events.{passed_at, sent_at, sent_name_at};
+ghost use Rattle.epic_index.specs.Events.{pass_at, passed_at, send_at, sent_at, sent_name_at};
 ghost use Rattle.epic_index.specs.Happened.{IsThere};
 
 use epic_ledger::{Event, Ledger};
@@ -14,7 +14,7 @@ use epic_num::HopName;
 use epic_view::PacketRef;
 
 /// The packet of an emission that is there.
-fn packet_of(ledger: &Ledger, emission: u32) -> PacketRef<'_>
+pub fn packet_of(ledger: &Ledger, emission: u32) -> PacketRef<'_>
     requires { IsSome (emission_at ledger.now.history.emissions emission) }
     ensures { result ≡ packet_at ledger.now.history.emissions emission }
 {
@@ -26,7 +26,7 @@ fn packet_of(ledger: &Ledger, emission: u32) -> PacketRef<'_>
 
 /// The name of the issue of a number.
 #[tactic(auto, unfolding(epic_num::specs::Chains::name_of))]
-fn issue_name(ledger: &Ledger, number: u32) -> Option<HopName>
+pub fn issue_name(ledger: &Ledger, number: u32) -> Option<HopName>
     ensures { result ≡ name_of (facts_of ledger.now.history).issues number }
 {
     match ledger.issue(number) {
@@ -65,7 +65,12 @@ fn last_issue(segments: &[u32], segment: u8) -> u32
 
 /// The name of a hop of a packet that was sent over segments with these last issues.
 #[tactic(auto, using(crate::proofs::Named::spots), unfolding(epic_layout::specs::Spelling::segment_bytes, epic_layout::specs::Route::body, epic_ledger::specs::Facts::sent_name, epic_ledger::specs::Facts::sent_issue))]
-fn name_over(ledger: &Ledger, segments: &[u32], packet: &PacketRef<'_>, hop: u8) -> Option<HopName>
+pub fn name_over(
+    ledger: &Ledger,
+    segments: &[u32],
+    packet: &PacketRef<'_>,
+    hop: u8,
+) -> Option<HopName>
     ensures { (emission : ℕ) → result ≡ sent_name (facts_of ledger.now.history).issues (record { emission = emission; segments = segments.now; packet = packet.now }) hop }
 {
     if hop >= packet.shape().hops {
@@ -91,7 +96,7 @@ fn event_at(ledger: &Ledger, no: u64) -> Option<&Event>
 
 /// The emission and the packet that was sent by an event.
 #[tactic(auto, unfolding(epic_ledger::specs::Facts::as_send))]
-fn sent_by<'a>(ledger: &'a Ledger, event: &Event) -> Option<(u32, PacketRef<'a>)>
+pub fn sent_by<'a>(ledger: &'a Ledger, event: &Event) -> Option<(u32, PacketRef<'a>)>
     requires { IsThere ledger.now.history.emissions event.now }
     ensures { result ≡ option_map (λ s. (s.emission, s.packet)) (as_send ledger.now.history.emissions event.now) }
 {
@@ -154,6 +159,15 @@ pub fn sent(ledger: &Ledger, no: u64) -> Option<(u32, PacketRef<'_>)>
     }
 }
 
+/// The emission of the packet that was sent by the event of a number, if one is named.
+#[tactic(auto, unfolding(crate::specs::Events::sent_at))]
+pub fn emission_sent(ledger: &Ledger, number: Option<u32>) -> Option<u32>
+    ensures { result ≡ option_map (λ s. s.emission) (option_and_then (send_at ledger.now.history) number) }
+{
+    let (emission, _) = sent(ledger, number? as u64)?;
+    Some(emission)
+}
+
 /// The name of the packet's hop.
 #[tactic(auto, unfolding(crate::specs::Events::sent_name_at, crate::specs::Events::send_at))]
 pub fn name_sent(ledger: &Ledger, no: u64, hop: u8) -> Option<HopName>
@@ -165,6 +179,14 @@ pub fn name_sent(ledger: &Ledger, no: u64, hop: u8) -> Option<HopName>
     }
 }
 
+/// The name of the hop of the packet that was sent by the event of a number, if one is named.
+#[tactic(auto, unfolding(crate::specs::Events::sent_name_at))]
+pub fn name_named(ledger: &Ledger, number: Option<u32>, hop: u8) -> Option<HopName>
+    ensures { result ≡ option_and_then (λ s. sent_name (facts_of ledger.now.history).issues s hop) (option_and_then (send_at ledger.now.history) number) }
+{
+    name_sent(ledger, number? as u64, hop)
+}
+
 /// The name and the index of the hop that was accepted by the event of a number, from 0, and the packet.
 #[tactic(auto, unfolding(crate::specs::Events::passed_at, crate::specs::Events::pass_at))]
 pub fn passed(ledger: &Ledger, no: u64) -> Option<(HopName, u8, PacketRef<'_>)>
@@ -174,6 +196,15 @@ pub fn passed(ledger: &Ledger, no: u64) -> Option<(HopName, u8, PacketRef<'_>)>
         Some(event) => passed_by(ledger, event),
         None => None,
     }
+}
+
+/// The name of the hop that was accepted by the event of a number, if one is named.
+#[tactic(auto, unfolding(crate::specs::Events::passed_at))]
+pub fn name_passed(ledger: &Ledger, number: Option<u32>) -> Option<HopName>
+    ensures { result ≡ option_map pass_name (option_and_then (pass_at ledger.now.history) number) }
+{
+    let (name, _, _) = passed(ledger, number? as u64)?;
+    Some(name)
 }
 
 /// The hop that was passed before a packet's hop in its segment.

@@ -1,16 +1,15 @@
 //! The index.
-ghost use Rattle.std.specs.Prelude.{◌≡◌, ◌≤◌, [], ◌∷◌, length, None, OnOk, OnErr};
+ghost use Rattle.std.specs.Prelude.{◌≡◌, ◌<◌, ◌≤◌, ◌^◌, [], ◌∷◌, length, None, OnOk, OnErr};
 ghost use Rattle.epic_num.specs.Levels.{is_first_byte};
 ghost use Rattle.epic_layout.specs.Layout.{fault};
 ghost use Rattle.epic_ledger.specs.Facts.{issues_in};
-ghost use Rattle.epic_ledger.specs.Lawful.{Fits};
-ghost use Rattle.epic_index.specs.Twins.{IsIssuerIn};
+ghost use Rattle.epic_ledger.specs.Lawful.{Fits, IsLawful};
+ghost use Rattle.epic_index.specs.Twins.{HasKnownAs};
 ghost use Rattle.epic_ledger.specs.OneMore.{with_event, with_emission};
 
-use crate::reveals::{RevealKey, add_reveal};
+use crate::sent_as::{SentTree, add_sent};
 use crate::step::{at_start, step_of};
-use crate::table::Table;
-use crate::twins::{TwinKey, add_issue};
+use crate::tables::Tables;
 use epic_ledger::{Event, Ledger};
 use epic_num::{OutOfMemory, Place};
 use epic_topo::Topology;
@@ -33,18 +32,18 @@ pub struct Index<'a> {
     pub(crate) topo: &'a Topology,
     pub(crate) ledger: Ledger,
     pub(crate) steps: Vec<u32>,
-    pub(crate) reveals: Table<RevealKey>,
-    pub(crate) twins: Table<TwinKey>,
+    pub(crate) tables: Tables,
+    pub(crate) sent: SentTree,
 }
 
 impl<'a> Model for Index<'a> {
-    ghost use Rattle.epic_index.specs.Indexes.{Indexed, history_of, IsIndexOf};
+    ghost use Rattle.epic_index.specs.Indexes.{Indexed, history_of, IsWholeIndex};
 
     ghost Value = { Indexed };
 
     ghost view = { λ x. record { network = x.topo.now; history = history_of x.ledger.history x.steps.items } };
 
-    ghost invariant = { λ x. IsIndexOf x.topo.now x.ledger.history x.steps.items x.reveals.keys x.twins.keys };
+    ghost invariant = { λ x. IsWholeIndex x.topo.now x.ledger.history x.steps.items x.tables.held x.sent };
 }
 
 /// Makes room for so many more events, emissions and emitted bytes. Where the ledger would have more than it holds,
@@ -59,6 +58,7 @@ fn make_room(
     ensures events { OnOk result (events ≤ ledger.new.spare.events) }
     ensures emissions { OnOk result (emissions ≤ ledger.new.spare.emissions) }
     ensures bytes { OnOk result (bytes ≤ ledger.new.spare.bytes) }
+    ensures few { OnOk result (length ledger.old.history.events < 2 ^ 31) }
 {
     if ledger.events() > MAX_EVENTS || ledger.emitted() > MAX_BYTES || bytes > MAX_BYTES {
         return Err(OutOfMemory);
@@ -72,6 +72,15 @@ fn make_room(
     ledger.reserve(events, emissions, bytes)
 }
 
+/// The number of the event that comes next.
+fn next_number(ledger: &Ledger) -> u32
+    requires { length ledger.now.history.events < 2 ^ 31 }
+    ensures value { result ≡ length ledger.now.history.events }
+    ensures lawful { IsLawful ledger.now.history }
+{
+    ledger.events() as u32
+}
+
 impl<'a> Index<'a> {
     /// An index of nothing.
     pub fn new(topo: &'a Topology, alloc: Global) -> Index<'a>
@@ -83,8 +92,8 @@ impl<'a> Index<'a> {
             topo,
             ledger: Ledger::new(alloc),
             steps: Vec::new(alloc),
-            reveals: Table::new(alloc),
-            twins: Table::new(alloc),
+            tables: Tables::new(alloc),
+            sent: SentTree::new(alloc),
         }
     }
 
@@ -96,14 +105,15 @@ impl<'a> Index<'a> {
         ensures kept { OnErr result (self.new.history ≡ self.old.history) }
     {
         make_room(&mut self.ledger, 0, 1, bytes.len() as u64)?;
+        let _events = self.ledger.events();
         self.ledger.emit(place, bytes);
         Ok(())
     }
 
-    /// Adds an event. The AS of an issue is of the topology.
+    /// Adds an event. The AS of an issue, and of an accepted hop, is of the topology.
     pub fn add_event(&mut self, event: Event) -> Result<(), OutOfMemory>
         requires fits { Fits self.old.history.emissions (issues_in self.old.history.events) event }
-        requires issuer { IsIssuerIn self.old.network event }
+        requires known { HasKnownAs self.old.network event }
         ensures network { self.new.network ≡ self.old.network }
         ensures history { OnOk result (self.new.history ≡ with_event self.old.history event) }
         ensures kept { OnErr result (self.new.history ≡ self.old.history) }
@@ -112,16 +122,18 @@ impl<'a> Index<'a> {
         if self.steps.reserve(1).is_err() {
             return Err(OutOfMemory);
         }
-        if self.reveals.reserve(1).is_err() {
+        if self.tables.reserve().is_err() {
             return Err(OutOfMemory);
         }
-        if self.twins.reserve(1).is_err() {
+        if self.sent.reserve().is_err() {
             return Err(OutOfMemory);
         }
-        add_reveal(&mut self.reveals, &event);
-        add_issue(&mut self.twins, self.topo, &event);
+        let number = next_number(&self.ledger);
+        self.tables.add(self.topo, &self.ledger, &event, number);
         self.steps.push_reserved(step_of(&event));
-        self.ledger.push(at_start(event));
+        let event = at_start(event);
+        add_sent(&mut self.sent, &self.ledger, &event, number);
+        self.ledger.push(event);
         Ok(())
     }
 }

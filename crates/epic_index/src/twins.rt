@@ -3,7 +3,7 @@ ghost use Rattle.std.specs.Prelude.{◌≡◌, ◌+◌, ◌≤◌, ◌%◌, ◌^
 ghost use Rattle.epic_topo.specs.Network.{has};
 ghost use Rattle.epic_ledger.specs.Facts.{issues_in};
 ghost use Rattle.epic_index.specs.Tags.{first_alike};
-ghost use Rattle.epic_index.specs.Twins.{twin_key, twin_keys, IsIssuerIn};
+ghost use Rattle.epic_index.specs.Twins.{twin_key, twin_keys, HasKnownAs};
 
 use crate::key::Key;
 use crate::table::Table;
@@ -45,7 +45,7 @@ pub fn key_of(topo: &Topology, x: &HopName) -> TwinKey
 #[tactic(auto, unfolding(epic_ledger::specs::Facts::as_issue))]
 pub fn add_issue(twins: &mut Table<TwinKey>, topo: &Topology, event: &Event)
     requires room { 1 ≤ twins.old.spare }
-    requires issuer { IsIssuerIn topo.now event.now }
+    requires known { HasKnownAs topo.now event.now }
     ensures { twins.new.keys ≡ twins.old.keys ++ twin_keys topo.now (issues_in (event.now ∷ [])) }
 {
     if let Event::Issue { name, .. } = event {

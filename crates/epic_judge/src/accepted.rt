@@ -11,7 +11,7 @@ ghost use Rattle.epic_judging.specs.Judging.{told_true};
 ghost use Rattle.epic_judge.specs.Known.{AreKnown, IsNamed};
 ghost use Rattle.epic_judge.specs.Reaching.{IsFew, IsReached, IsRead};
 
-use crate::dest_stub::is_true_at_dest;
+use crate::dest_line::is_true_at_dest;
 use crate::hop_line::is_true_at_hop;
 use crate::progress::{Progress, behind};
 use epic_index::Index;

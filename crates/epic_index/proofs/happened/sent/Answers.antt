@@ -1,6 +1,6 @@
 use Rattle.std.proofs.Common.{◌∙◌, ap}
 use Rattle.std.specs.Prelude.{option_map}
-use Rattle.epic_ledger.specs.Facts.{as_send, pass_name}
+use Rattle.epic_ledger.specs.Facts.{as_send}
 use Rattle.epic_index.specs.Events.{sent_at, send_at}
 use Rattle.epic_index.proofs.Happening.{got_some, got_none}
 use Rattle.epic_index.proofs.happened.sent.Goals as goal

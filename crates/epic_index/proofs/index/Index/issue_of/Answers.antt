@@ -2,4 +2,4 @@ use Rattle.epic_index.proofs.Answering.{index_issues}
 use Rattle.epic_index.proofs.index.Index.issue_of.Goals as goal
 
 pub returns : goal.returns
-returns c = rw (← c.self.view_is, index_issues _ _ c.self.invariant.apart) c.issue_of.ensures
+returns c = rw (← c.self.view_is, index_issues _ _ c.self.invariant.index.apart) c.issue_of.ensures

@@ -1,6 +1,5 @@
-use Rattle.std.proofs.Common.{length, ap}
 use Rattle.epic_index.proofs.Answering.{index_issues}
 use Rattle.epic_index.proofs.index.Index.issues.Goals as goal
 
 pub returns : goal.returns
-returns c = rw (← c.self.view_is, index_issues _ _ c.self.invariant.apart) c.issues.ensures
+returns c = rw (← c.self.view_is, index_issues _ _ c.self.invariant.index.apart) c.issues.ensures

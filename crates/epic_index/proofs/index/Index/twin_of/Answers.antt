@@ -14,14 +14,13 @@ returns-in-Some c =
     _
     _
     _
-    _
-    c.self.invariant
+    c.self.invariant.index
     c.key_of.ensures
-    c.first.ensures.value
+    c.first_twin.ensures
     c.in-Some.is
     (rw (← c.self.view_is) at c.name_at.ensures))
 
 pub returns-in-None : goal.returns-in-None
 returns-in-None c =
     rw (← c.self.view_is)
-    (find_none _ _ _ _ _ _ _ _ c.self.invariant c.key_of.ensures c.first.ensures.value c.in-None.is)
+    (find_none _ _ _ _ _ _ _ c.self.invariant.index c.key_of.ensures c.first_twin.ensures c.in-None.is)
