@@ -21,7 +21,7 @@ use Rattle.epic_ledger.specs.History.{Emission, History, emission_at}
 use Rattle.epic_ledger.specs.Lawful.{Fits}
 use Rattle.epic_ledger.specs.OneMore.{with_event}
 use Rattle.epic_ledger.proofs.Growing.{emission_at-suc}
-use Rattle.epic_index.specs.Twins.{IsIssuerIn}
+use Rattle.epic_index.specs.Twins.{HasKnownAs}
 use Rattle.epic_record.specs.declared.item.Item.{Item}
 use Rattle.epic_record.specs.declared.item.Item.TheVariants as items
 use Rattle.epic_record.specs.LedgerFile.{are_lasts, goes_on, is_event_placed, is_newest, is_placed}
@@ -300,12 +300,12 @@ event_fits t h (event.Arrive step host src ts hops checked) s p = tt
 event_fits t h (event.Reveal step who) s p = tt
 event_fits t h (event.Roll step a generation) s p = tt
 
-pub issuer_in : (t : Network) (h : History) (e : Event) → is_event_placed t h e ≡ true → IsIssuerIn t e
+pub known_as : (t : Network) (h : History) (e : Event) → is_event_placed t h e ≡ true → HasKnownAs t e
 unfolding is_event_placed
-issuer_in t h (event.Issue step number x parent) p = (and_parts _ _ (and_parts _ _ (and_parts _ _ p).0).0).1
-issuer_in t h (event.Fetch step source owner epoch) p = tt
-issuer_in t h (event.Send step emission segments) p = tt
-issuer_in t h (event.Pass step a hop generation emission) p = tt
-issuer_in t h (event.Arrive step host src ts hops checked) p = tt
-issuer_in t h (event.Reveal step who) p = tt
-issuer_in t h (event.Roll step a generation) p = tt
+known_as t h (event.Issue step number x parent) p = (and_parts _ _ (and_parts _ _ (and_parts _ _ p).0).0).1
+known_as t h (event.Fetch step source owner epoch) p = tt
+known_as t h (event.Send step emission segments) p = tt
+known_as t h (event.Pass step a hop generation emission) p = (and_parts _ _ (and_parts _ _ p).0).0
+known_as t h (event.Arrive step host src ts hops checked) p = tt
+known_as t h (event.Reveal step who) p = tt
+known_as t h (event.Roll step a generation) p = tt

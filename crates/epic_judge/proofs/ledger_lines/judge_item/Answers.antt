@@ -9,7 +9,7 @@ use Rattle.epic_record.specs.VerdictLines.{accepted_by}
 use Rattle.epic_judge.specs.Reaching.{AreJudged, IsReached}
 use Rattle.epic_judge.specs.Sound.{history_more}
 use Rattle.epic_judge.proofs.Placed.{emission_faultless, on_ok}
-use Rattle.epic_judge.proofs.SoundLaws.{event_fits, issuer_in, sound_known}
+use Rattle.epic_judge.proofs.SoundLaws.{event_fits, known_as, sound_known}
 use Rattle.epic_judge.proofs.ledger_lines.judge_item.Goals as goal
 
 pub add_event-requires-clause-fits : goal.add_event-requires-clause-fits
@@ -17,10 +17,10 @@ add_event-requires-clause-fits c =
     let x = c.args.index.now in
     event_fits x.network x.history c.in-Event.event c.requires.sound (subst (λ (i : Item). is_placed x.network x.history i ≡ true) c.in-Event.is c.requires.placed)
 
-pub add_event-requires-clause-issuer : goal.add_event-requires-clause-issuer
-add_event-requires-clause-issuer c =
+pub add_event-requires-clause-known : goal.add_event-requires-clause-known
+add_event-requires-clause-known c =
     let x = c.args.index.now in
-    issuer_in x.network x.history c.in-Event.event (subst (λ (i : Item). is_placed x.network x.history i ≡ true) c.in-Event.is c.requires.placed)
+    known_as x.network x.history c.in-Event.event (subst (λ (i : Item). is_placed x.network x.history i ≡ true) c.in-Event.is c.requires.placed)
 
 pub returns-in-Ok-clause-history : goal.returns-in-Ok-clause-history
 returns-in-Ok-clause-history c =
