@@ -3,7 +3,7 @@ use Rattle.std.specs.Prelude.{ℕ, List, [], ◌∷◌, Option, Some, None, code
 use Rattle.std.proofs.Common.{◌≡◌, refl}
 use Rattle.clap.proofs.OnLiterals.{clap_on_literals}
 use Rattle.hex.specs.Hex.{decode_pairs}
-use Rattle.epic_words.specs.Request.{Request, Hop, Run, RunRequest, hop_of, number_in, police_of, request_of, run_of}
+use Rattle.epic_words.specs.Request.{Request, Hop, Run, Judge, RunRequest, hop_of, judge_of, number_in, police_of, request_of, run_of}
 use Rattle.epic_words.specs.RunCommand.{is_refused, rows_in, run_command}
 
 abbrev Word : Type 0
@@ -257,3 +257,16 @@ hop_with_option : request_of (codes "hop" ∷ codes "000102030405060708090a0b0c0
     ∷ codes "--save=d" ∷ []) ≡ None
 unfolding request_of hop_of
 hop_with_option = refl
+
+-- the files may have one name
+judge : request_of (codes "judge" ∷ codes "t" ∷ codes "l" ∷ codes "l" ∷ []) ≡ Some (Judge (codes "t") (codes "l") (codes "l"))
+unfolding request_of judge_of
+judge = refl
+
+judge_two : request_of (codes "judge" ∷ codes "t" ∷ codes "l" ∷ []) ≡ None
+unfolding request_of judge_of
+judge_two = refl
+
+judge_four : request_of (codes "judge" ∷ codes "t" ∷ codes "l" ∷ codes "v" ∷ codes "v" ∷ []) ≡ None
+unfolding request_of judge_of
+judge_four = refl

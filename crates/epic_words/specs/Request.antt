@@ -40,6 +40,8 @@ pub data Request : Type 0 where
   Run : (request : RunRequest) → Request
   -- `gen SEED PACKETS`
   Gen : (seed packets : ℕ) → Request
+  -- `judge TOPOLOGY LEDGER VERDICTS`: the names of the files
+  Judge : (topology ledger verdicts : List ℕ) → Request
 
 -- ---- the files of a command
 
@@ -48,12 +50,14 @@ abbrev pub reads_of : Request → List (List ℕ)
 reads_of (Hop key name) = name ∷ []
 reads_of (Run r) = r.topology ∷ r.script ∷ option_to_list r.capture
 reads_of (Gen seed packets) = []
+reads_of (Judge topology ledger verdicts) = topology ∷ ledger ∷ verdicts ∷ []
 
 -- and of those that are written, in the order in which they are made
 abbrev pub writes_of : Request → List (List ℕ)
 writes_of (Hop key name) = []
 writes_of (Run r) = option_to_list r.save ++ (option_to_list r.ledger ++ option_to_list r.verdicts)
 writes_of (Gen seed packets) = []
+writes_of (Judge topology ledger verdicts) = []
 
 -- a name that is written stands among those that are read, or twice among those that are written
 abbrev pub is_shared : List (List ℕ) → List (List ℕ) → Bool
@@ -139,6 +143,11 @@ gen_of (seed ∷ packets ∷ []) =
     gen_request (number_in 0 0xffff_ffff_ffff_ffff seed) (number_in 1 100000 packets)
 gen_of words = None
 
+-- the words after `judge`: three names, of which some may be one
+unfoldable pub judge_of : List (List ℕ) → Option Request
+judge_of (topology ∷ ledger ∷ verdicts ∷ []) = Some (Judge topology ledger verdicts)
+judge_of words = None
+
 -- what the words after the program's name ask for; none where they are no command
 unfoldable pub request_of : List (List ℕ) → Option Request
 request_of [] = None
@@ -146,6 +155,7 @@ request_of (command ∷ words) =
     if bytes_eq command (codes "hop") then hop_of words
     else if bytes_eq command (codes "run") then run_of words
     else if bytes_eq command (codes "gen") then gen_of words
+    else if bytes_eq command (codes "judge") then judge_of words
     else None
 
 -- the first word is this one

@@ -8,6 +8,7 @@ ghost use Rattle.epic_words.specs.Request.{is_command, request_of};
 use crate::error::WordsError;
 use crate::generate::{GenWords, gen_words};
 use crate::hop::{HopWords, hop_words};
+use crate::judge::{JudgeWords, judge_words};
 use crate::run::{RunWords, run_words};
 use std::alloc::Global;
 
@@ -20,6 +21,8 @@ pub enum Asked<'a> {
     Run(RunWords<'a>),
     /// `gen SEED PACKETS`.
     Gen(GenWords),
+    /// `judge TOPOLOGY LEDGER VERDICTS`.
+    Judge(JudgeWords<'a>),
 }
 
 /// Reads the words after the program's name.
@@ -51,6 +54,10 @@ pub fn asked_for<'a>(alloc: Global, words: &'a [String]) -> Result<Asked<'a>, Wo
         },
         "gen" => match gen_words(rest) {
             Some(words) => Ok(Asked::Gen(words)),
+            None => Err(WordsError::Refused),
+        },
+        "judge" => match judge_words(rest) {
+            Some(words) => Ok(Asked::Judge(words)),
             None => Err(WordsError::Refused),
         },
         _ => Err(WordsError::Refused),

@@ -174,6 +174,8 @@ fn words_that_are_refused(rt: HostRuntime) -> Result<(), Fail> {
         "gen 7 0x10",
         "gen 1-1 1",
         "gen 7 000000000000000000000",
+        "judge t l",
+        "judge t l v v",
     ] {
         let words = split(alloc, line)?;
         assert!(rt;
@@ -208,5 +210,18 @@ fn words_of_gen(rt: HostRuntime) -> Result<(), Fail> {
         let asked = Asked::Gen(GenWords { seed, packets });
         assert!(rt; asked_for(alloc, &words) == Ok(asked), "{line}");
     }
+    Ok(())
+}
+
+#[test]
+fn words_of_judge(rt: HostRuntime) -> Result<(), Fail> {
+    let alloc = rt.alloc();
+    let words = split(alloc, "judge t l l")?;
+    let files = JudgeWords {
+        topology: "t",
+        ledger: "l",
+        verdicts: "l",
+    };
+    assert!(rt; asked_for(alloc, &words) == Ok(Asked::Judge(files)));
     Ok(())
 }
