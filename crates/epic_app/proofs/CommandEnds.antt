@@ -15,7 +15,7 @@ use Rattle.epic_gen.specs.Topology.{generated_network}
 use Rattle.epic_ports.proofs.Appended.{Appends-none}
 use Rattle.epic_text.specs.RunScript.{run_rule}
 use Rattle.epic_app.specs.declared.end.End.{End}
-use Rattle.epic_app.specs.declared.end.End.TheVariants.{Done, BadWords, BadTopology, LongTopology, BadScript, LongScript, BadCapture, ReadFault, WriteFault, OutOfMemory}
+use Rattle.epic_app.specs.declared.end.End.TheVariants.{Done, BadWords, BadTopology, LongTopology, BadScript, LongScript, BadCapture, BadFile, ReadFault, WriteFault, OutOfMemory}
 use Rattle.epic_app.specs.declared.hop_file.HopCommand.{HopCommand}
 use Rattle.epic_app.specs.Acts.{World, world}
 use Rattle.epic_app.specs.Captures.{RecordsFit}
@@ -44,7 +44,7 @@ use Rattle.epic_app.proofs.FileLaws.{keeps_both, keeps_itself, later_by, reading
 -- ---- causes
 
 -- an end before anything is done
-early_cause : {X : Type 0} (next : X → Progress) (name : List ℕ) (before now : ℕ) (old new : World) (end : End) → IsEarly name before now end
+pub early_cause : {X : Type 0} (next : X → Progress) (name : List ℕ) (before now : ℕ) (old new : World) (end : End) → IsEarly name before now end
     → KeepsFiles old.contents new.contents → Appends old.written new.written [] → HasCause (follows (Err end) next) old new end
 early_cause next name before now old new (Done forged) early keeps nothing = absurd early
 early_cause next name before now old new BadWords early keeps nothing = absurd early
@@ -53,6 +53,7 @@ early_cause next name before now old new LongTopology early keeps nothing = reco
 early_cause next name before now old new (BadScript line kind) early keeps nothing = record { is_ending = refl; done = does_nothing old new keeps nothing }
 early_cause next name before now old new LongScript early keeps nothing = record { is_ending = refl; done = does_nothing old new keeps nothing }
 early_cause next name before now old new (BadCapture damage) early keeps nothing = record { is_ending = refl; done = does_nothing old new keeps nothing }
+early_cause next name before now old new (BadFile file line kind) early keeps nothing = record { is_ending = refl; done = does_nothing old new keeps nothing }
 early_cause next name before now old new (ReadFault told) early keeps nothing = record { is_ending = refl; done = does_nothing old new keeps nothing }
 early_cause next name before now old new WriteFault early keeps nothing = absurd early
 early_cause next name before now old new OutOfMemory early keeps nothing = memory_first old new keeps nothing
@@ -60,7 +61,7 @@ early_cause next name before now old new OutOfMemory early keeps nothing = memor
 rose_in : (a b c : ℕ) → a ≤ b → Rose b c → Rose a c
 rose_in a b c low rose = grind (arith, low, rose)
 
-early_blames : (request : Request) (name : List ℕ) (before : ℕ) (old new : World) (end : End) → IsEarly name before (new.reads name) end
+pub early_blames : (request : Request) (name : List ℕ) (before : ℕ) (old new : World) (end : End) → IsEarly name before (new.reads name) end
     → Contains (reads_of request) name → old.reads name ≤ before → Blames request old new end
 early_blames request name before old new (Done forged) early reads low = tt
 early_blames request name before old new BadWords early reads low = tt
@@ -69,24 +70,25 @@ early_blames request name before old new LongTopology early reads low = tt
 early_blames request name before old new (BadScript line kind) early reads low = tt
 early_blames request name before old new LongScript early reads low = tt
 early_blames request name before old new (BadCapture damage) early reads low = tt
+early_blames request name before old new (BadFile file line kind) early reads low = tt
 early_blames request name before old new (ReadFault told) (is, rose) reads low =
     let P : List ℕ → Type 0 = λ q. Contains (reads_of request) q × Rose (old.reads q) (new.reads q) in
     subst P (sym is) (reads, rose_in (old.reads name) before (new.reads name) low rose)
 early_blames request name before old new WriteFault early reads low = absurd early
 early_blames request name before old new OutOfMemory early reads low = tt
 
-report_blames : (request : Request) (text : List ℕ) (old new : World) (r : Result Bool PortError)
+pub report_blames : (request : Request) (text : List ℕ) (old new : World) (r : Result Bool PortError)
     → Writes text old.written new.written old.faults new.faults r → Blames request old new (end_after r)
 report_blames request text old new (Ok b) writes = tt
 report_blames request text old new (Err port_error.Failed) (less, rose) = inl rose
 report_blames request text old new (Err port_error.OutOfMemory) writes = tt
 
-files_stay : (request : Request) (old new : Option Files) → KeepsFiles old new → FilesStay request old new
+pub files_stay : (request : Request) (old new : Option Files) → KeepsFiles old new → FilesStay request old new
 files_stay request None new keeps = tt
 files_stay request (Some old) None keeps = keeps
 files_stay request (Some old) (Some new) keeps = λ name absent. ap (λ (files : Files). files name) keeps
 
-cause_by : (p q : Progress) (old new : World) (end : End) → p ≡ q → HasCause q old new end → HasCause p old new end
+pub cause_by : (p q : Progress) (old new : World) (end : End) → p ≡ q → HasCause q old new end → HasCause p old new end
 cause_by p q old new end same cause = let P : Progress → Type 0 = λ x. HasCause x old new end in subst P (sym same) cause
 
 -- ---- the command `hop`
@@ -201,6 +203,7 @@ run_blames r old late new LongTopology blames works later = tt
 run_blames r old late new (BadScript line kind) blames works later = tt
 run_blames r old late new LongScript blames works later = tt
 run_blames r old late new (BadCapture damage) blames works later = tt
+run_blames r old late new (BadFile file line kind) blames works later = tt
 run_blames r old late new (ReadFault name) (is, rose) works later =
     (behind_two r.topology r.script (option_to_list r.capture) name.now is, rose_in (old.reads name.now) (late.reads name.now) (new.reads name.now) (later name.now) rose)
 run_blames r old late new WriteFault blames works later = by (blamed_later (kept_by r) old late new works blames)

@@ -7,12 +7,12 @@ use Rattle.epic_words.specs.RunCommand.{is_refused, rows_in, run_command}
 use Rattle.epic_ports.specs.Files.{Files}
 use Rattle.epic_ports.proofs.Appended.{Appends-none}
 use Rattle.epic_app.specs.declared.end.End.{End}
-use Rattle.epic_app.specs.declared.end.End.TheVariants.{Done, BadWords, BadTopology, LongTopology, BadScript, LongScript, BadCapture, ReadFault, WriteFault, OutOfMemory}
+use Rattle.epic_app.specs.declared.end.End.TheVariants.{Done, BadWords, BadTopology, LongTopology, BadScript, LongScript, BadCapture, BadFile, ReadFault, WriteFault, OutOfMemory}
 use Rattle.epic_app.specs.Acts.{World}
 use Rattle.epic_app.specs.Doing.{Progress}
 use Rattle.epic_app.specs.End.{status_of, line_of, Blames, Decided, HasCause, EndsAs, EndsFor}
 use Rattle.epic_app.specs.Outcome.{ErrorSink, Tells, EndsBy, NoFault, EndsUnder, FilesStay, Refuses}
-use Rattle.epic_words.specs.Request.{Request, Hop, Run, Gen, RunRequest, gen_of, gen_request, hop_of, hop_request, is_command, number_in, reads_of, request_of, run_of, run_request, shares_files, unless_shared}
+use Rattle.epic_words.specs.Request.{Request, Hop, Run, Gen, Judge, RunRequest, gen_of, gen_request, hop_of, hop_request, is_command, judge_of, number_in, reads_of, request_of, run_of, run_request, shares_files, unless_shared}
 use Rattle.epic_app.specs.RunEnding.{IsUnshared}
 use Rattle.epic_app.specs.Readings.{Reading, Unread, AreRead}
 use Rattle.epic_app.proofs.ActFiles.{does_nothing}
@@ -30,6 +30,7 @@ module _ (p : Progress) (old new : World) (e f : ErrorSink) where
   ends_by (BadScript line kind) cause tells = decides _ _ cause tells
   ends_by LongScript cause tells = decides _ _ cause tells
   ends_by (BadCapture damage) cause tells = decides _ _ cause tells
+  ends_by (BadFile file line kind) cause tells = decides _ _ cause tells
   ends_by (ReadFault name) cause tells = decides _ _ cause tells
   ends_by WriteFault cause tells = inr (inl (record { is_status = refl; stops = cause; tells = tells }))
   ends_by OutOfMemory cause tells = inr (inr (record { is_status = refl; stops = cause; tells = tells }))
@@ -44,6 +45,7 @@ complete request p old new LongTopology cause blames none = inl (omega arith)
 complete request p old new (BadScript line kind) cause blames none = inl (omega arith)
 complete request p old new LongScript cause blames none = inl (omega arith)
 complete request p old new (BadCapture damage) cause blames none = inl (omega arith)
+complete request p old new (BadFile file line kind) cause blames none = inl (omega arith)
 complete request p old new (ReadFault name) cause (reads, rose) none = absurd (none.reads name.now reads rose)
 complete request p old new WriteFault cause blames none = absurd (none.writes blames)
 complete request p old new OutOfMemory cause blames none = inr refl
@@ -94,6 +96,8 @@ memory_for words None w run = (refl, inr (refl, run))
 memory_for words (Some (Hop key name)) w run = memory_by (Hop key name) (Unread ∷ []) w (tt, tt)
 memory_for words (Some (Run r)) w run = memory_run r r.capture w refl
 memory_for words (Some (Gen seed packets)) w run = memory_by (Gen seed packets) [] w tt
+memory_for words (Some (Judge topology ledger verdicts)) w run =
+    memory_by (Judge topology ledger verdicts) (Unread ∷ Unread ∷ Unread ∷ []) w (tt, (tt, (tt, tt)))
 
 -- ---- what the words ask for
 
@@ -117,6 +121,7 @@ the_run other None = other
 the_run other (Some (Hop key name)) = other
 the_run other (Some (Run r)) = r
 the_run other (Some (Gen seed packets)) = other
+the_run other (Some (Judge topology ledger verdicts)) = other
 
 unshared_by : (b : Bool) (q r : RunRequest) → shares_files (Run q) ≡ b → ◌≡◌ {A = Option Request} (cond b None (Some (Run q))) (Some (Run r)) → IsUnshared r
 unshared_by true q r is same = absurd (cc)
@@ -155,13 +160,24 @@ gen_is_no_run (seed ∷ packets ∷ []) r is =
     no_run_either (number_in 0 0xffff_ffff_ffff_ffff seed) (number_in 1 100000 packets) r is
 gen_is_no_run (seed ∷ packets ∷ more ∷ words) r is = absurd (cc)
 
+judge_is_no_run : (words : List (List ℕ)) (r : RunRequest) → judge_of words ≡ Some (Run r) → ⊥
+unfolding judge_of
+judge_is_no_run [] r is = absurd (cc)
+judge_is_no_run (topology ∷ []) r is = absurd (cc)
+judge_is_no_run (topology ∷ ledger ∷ []) r is = absurd (cc)
+judge_is_no_run (topology ∷ ledger ∷ verdicts ∷ []) r is = absurd (cc)
+judge_is_no_run (topology ∷ ledger ∷ verdicts ∷ more ∷ words) r is = absurd (cc)
+
 pub unshared_for : (words : List (List ℕ)) (r : RunRequest) → request_of words ≡ Some (Run r) → IsUnshared r
 unfolding request_of
 unshared_for [] r is = absurd (cc)
-unshared_for (command ∷ words) r is = by (bytes_eq command (codes "hop")) (bytes_eq command (codes "run")) (bytes_eq command (codes "gen")) is
+unshared_for (command ∷ words) r is =
+    by (bytes_eq command (codes "hop")) (bytes_eq command (codes "run")) (bytes_eq command (codes "gen")) (bytes_eq command (codes "judge")) is
   where
-    by : (hop run gen : Bool) → ◌≡◌ {A = Option Request} (cond hop (hop_of words) (cond run (run_of words) (cond gen (gen_of words) None))) (Some (Run r)) → IsUnshared r
-    by true run gen same = absurd (hop_is_no_run words r same)
-    by false true gen same = unshared_run words r same
-    by false false true same = absurd (gen_is_no_run words r same)
-    by false false false same = absurd (cc)
+    by : (hop run gen judge : Bool)
+        → ◌≡◌ {A = Option Request} (cond hop (hop_of words) (cond run (run_of words) (cond gen (gen_of words) (cond judge (judge_of words) None)))) (Some (Run r)) → IsUnshared r
+    by true run gen judge same = absurd (hop_is_no_run words r same)
+    by false true gen judge same = unshared_run words r same
+    by false false true judge same = absurd (gen_is_no_run words r same)
+    by false false false true same = absurd (judge_is_no_run words r same)
+    by false false false false same = absurd (cc)

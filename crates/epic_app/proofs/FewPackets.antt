@@ -7,7 +7,7 @@ use Rattle.std.proofs.lemmas.Grind.{common_steps}
 use Rattle.hex.specs.Hex.{decode_sized}
 use Rattle.hex.specs.declared.error.FromHexError.{FromHexError}
 use Rattle.epic_num.specs.Names.{number_of, within}
-use Rattle.epic_words.specs.Request.{Request, RunRequest, Hop, Run, Gen, gen_of, gen_request, hop_of, hop_request, number_in, request_of, run_of, run_request, shares_files, unless_shared}
+use Rattle.epic_words.specs.Request.{Request, RunRequest, Hop, Run, Gen, Judge, gen_of, gen_request, hop_of, hop_request, judge_of, number_in, request_of, run_of, run_request, shares_files, unless_shared}
 use Rattle.epic_words.specs.RunCommand.{is_refused, rows_in, run_command}
 
 -- at most so many packets, where it is `gen` that is asked for; and no file that is written has the name of another
@@ -16,6 +16,7 @@ HasFew None = ⊤
 HasFew (Some (Hop key name)) = ⊤
 HasFew (Some (Run r)) = shares_files (Run r) ≡ false
 HasFew (Some (Gen seed packets)) = packets ≤ 100000
+HasFew (Some (Judge topology ledger verdicts)) = ⊤
 
 few_hop : (name : List ℕ) (key : Result (List ℕ) FromHexError) → HasFew (hop_request name key)
 few_hop name (Ok key) = tt
@@ -55,13 +56,24 @@ few_gens (seed ∷ packets ∷ []) =
     few_gen (number_in 0 0xffff_ffff_ffff_ffff seed) (number_in 1 100000 packets) (λ n is. within_few (number_of packets) n is)
 few_gens (seed ∷ packets ∷ word ∷ words) = tt
 
+few_judge : (words : List (List ℕ)) → HasFew (judge_of words)
+unfolding judge_of
+few_judge [] = tt
+few_judge (topology ∷ []) = tt
+few_judge (topology ∷ ledger ∷ []) = tt
+few_judge (topology ∷ ledger ∷ verdicts ∷ []) = tt
+few_judge (topology ∷ ledger ∷ verdicts ∷ word ∷ words) = tt
+
 pub few_requests : (words : List (List ℕ)) → HasFew (request_of words)
 unfolding request_of
 few_requests [] = tt
 few_requests (command ∷ words) =
-    cond_both (bytes_eq command (codes "hop")) (hop_of words)
-    (cond (bytes_eq command (codes "run")) (run_of words) (cond (bytes_eq command (codes "gen")) (gen_of words) None)) HasFew
+    let judges = cond {A = Option Request} (bytes_eq command (codes "judge")) (judge_of words) None in
+    let gens = cond (bytes_eq command (codes "gen")) (gen_of words) judges in
+    cond_both (bytes_eq command (codes "hop")) (hop_of words) (cond (bytes_eq command (codes "run")) (run_of words) gens) HasFew
     (λ e. few_hops words)
-    (λ e. cond_both (bytes_eq command (codes "run")) (run_of words) (cond (bytes_eq command (codes "gen")) (gen_of words) None) HasFew
+    (λ e. cond_both (bytes_eq command (codes "run")) (run_of words) gens HasFew
     (λ f. few_runs words)
-    (λ f. cond_both (bytes_eq command (codes "gen")) (gen_of words) None HasFew (λ g. few_gens words) (λ g. tt)))
+    (λ f. cond_both (bytes_eq command (codes "gen")) (gen_of words) judges HasFew
+    (λ g. few_gens words)
+    (λ g. cond_both (bytes_eq command (codes "judge")) (judge_of words) None HasFew (λ h. few_judge words) (λ h. tt))))

@@ -7,13 +7,15 @@ use Rattle.std.proofs.lemmas.Slice.Eq.{bytes_eq-Decides}
 use Rattle.epic_ports.specs.Faults.{CountsOnly, Rose}
 use Rattle.epic_ports.specs.Files.{Files, KeepsFiles, ReadsFile, bytes_at}
 use Rattle.epic_ports.specs.declared.error.ReadError.TheVariants.{TooLong}
+use Rattle.epic_record.specs.declared.fault.FileKind.TheVariants as file_kind
 use Rattle.epic_topo.specs.Network.{Network}
 use Rattle.epic_topo.specs.Reading.{topology}
 use Rattle.epic_topo.specs.declared.fault.TopoError.{TopoError}
 use Rattle.epic_text.specs.Script.{Fault, Rule, commands_of}
-use Rattle.epic_app.specs.Doing.{Progress, by_commands, by_topology, ends, on_commands, on_topology, whole, within}
-use Rattle.epic_app.specs.FaultLines.{long_topology_line, too_long_line}
-use Rattle.epic_app.specs.Limits.{topology_limit}
+use Rattle.epic_app.specs.Doing.{Progress, by_commands, by_topology, ends, on_commands, on_judged, on_topology, whole, within}
+use Rattle.epic_app.specs.FaultLines.{file_line, long_topology_line, too_long_line}
+use Rattle.epic_app.specs.Limits.{limit_of, topology_limit}
+use Rattle.epic_app.specs.declared.judge_file.JudgedFile.{JudgedFile}
 use Rattle.epic_app.specs.Readings.{Reading, Whole, Failed, Unread, Holds, Begins, IsReading}
 
 -- ---- limits
@@ -75,6 +77,17 @@ module _ {C : Type 0} (name : List ℕ) (limit : ℕ) (rule : Rule C) (next : Li
   unfolding on_commands whole
   read_commands bytes r few is =
       inside limit 4 too_long_line bytes (by_commands (commands_of rule bytes) next) few ∙ ap (λ q. by_commands q next) is
+
+-- ---- and of a file that is judged
+
+module _ (file : JudgedFile) (name : List ℕ) (next : List ℕ → Progress) where
+  pub long_judged : (bytes : List ℕ) → limit_of file < length bytes → on_judged file name (Whole bytes) next ≡ ends [] 4 (file_line file 0 file_kind.TooLong)
+  unfolding on_judged whole
+  long_judged bytes long = past (limit_of file) 4 (file_line file 0 file_kind.TooLong) bytes (next bytes) long
+
+  pub read_judged : (bytes : List ℕ) → length bytes ≤ limit_of file → on_judged file name (Whole bytes) next ≡ next bytes
+  unfolding on_judged whole
+  read_judged bytes few = inside (limit_of file) 4 (file_line file 0 file_kind.TooLong) bytes (next bytes) few
 
 -- ---- one file after the other
 

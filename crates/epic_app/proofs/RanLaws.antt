@@ -25,7 +25,7 @@ use Rattle.epic_app.specs.Keeping.{kept_in}
 use Rattle.epic_app.specs.Kept.{Kept, names}
 use Rattle.epic_app.specs.declared.taking.Records.{Records}
 use Rattle.epic_app.specs.declared.end.End.{End}
-use Rattle.epic_app.specs.declared.end.End.TheVariants.{BadWords, BadTopology, LongTopology, BadScript, LongScript, BadCapture, ReadFault, WriteFault}
+use Rattle.epic_app.specs.declared.end.End.TheVariants.{BadWords, BadTopology, LongTopology, BadScript, LongScript, BadCapture, BadFile, ReadFault, WriteFault}
 use Rattle.epic_app.specs.declared.end.End.TheVariants as ends
 use Rattle.epic_ports.proofs.Appended.{Appends-none}
 use Rattle.epic_app.specs.Acts.{Act, World, Does, StopsAt, StopsBefore, world}
@@ -107,6 +107,7 @@ cause_read p u v w LongTopology nothing works cause = decided_read p u v w _ _ n
 cause_read p u v w (BadScript line kind) nothing works cause = decided_read p u v w _ _ nothing cause
 cause_read p u v w LongScript nothing works cause = decided_read p u v w _ _ nothing cause
 cause_read p u v w (BadCapture damage) nothing works cause = decided_read p u v w _ _ nothing cause
+cause_read p u v w (BadFile file line kind) nothing works cause = decided_read p u v w _ _ nothing cause
 cause_read p u v w (ReadFault name) nothing works cause = decided_read p u v w _ _ nothing cause
 cause_read {kept} p u v w WriteFault nothing works cause = stops_behind [] p.acts kept u v w nothing works cause
 cause_read p u v w ends.OutOfMemory nothing works cause = ends_behind [] p.acts u v w nothing cause

@@ -12,6 +12,11 @@ use Rattle.epic_feed.specs.Forms.{records_in}
 use Rattle.epic_feed.proofs.Few.{few_records}
 use Rattle.epic_ports.specs.Files.{Files}
 use Rattle.epic_ports.specs.Written.{Appends}
+use Rattle.epic_judging.specs.declared.judged.Judged.{Judged}
+use Rattle.epic_judging.specs.declared.judged.JudgeError.{JudgeError}
+use Rattle.epic_judging.specs.declared.judged.JudgeError.TheVariants as judge_error
+use Rattle.epic_judging.specs.Laws.{JudgmentsAreDecided}
+use Rattle.epic_record.specs.declared.fault.FileKind.TheVariants.{TooLong}
 use Rattle.epic_topo.specs.Lawful.{IsTopology}
 use Rattle.epic_topo.specs.Network.{Network}
 use Rattle.epic_topo.specs.Reading.{topology}
@@ -30,21 +35,24 @@ use Rattle.epic_model.specs.State.{start}
 use Rattle.epic_world.specs.Run.{run, run_from}
 use Rattle.epic_model.specs.World.{Fits, most_steps}
 use Rattle.epic_world.specs.Sound.{RunsHold}
+use Rattle.epic_app.specs.declared.judge_file.JudgedFile.{JudgedFile}
+use Rattle.epic_app.specs.declared.judge_file.JudgedFile.TheVariants.{Ledger, Verdicts}
+use Rattle.epic_app.specs.JudgeReport.{is_no, judged_text, judgment}
 use Rattle.epic_app.specs.Keeping.{kept_by}
 use Rattle.epic_app.specs.Kept.{Kept}
 use Rattle.epic_app.specs.Acts.{Act, World, Does, printed, prints}
 use Rattle.epic_app.specs.Captures.{RecordsFit, records_commands, run_commands}
-use Rattle.epic_app.specs.Claims.{GenHolds, HopHolds, HoldsRecords, HoldsUnder, RunHolds}
-use Rattle.epic_app.specs.Doing.{Progress, by_commands, by_records, by_topology, doing, ends, gen_done, hop_done, on_capture, on_commands, on_topology, run_acts, run_by, run_with, showing, run_cut, run_done, whole, within, steps_acts}
+use Rattle.epic_app.specs.Claims.{GenHolds, HopHolds, HoldsRecords, HoldsUnder, JudgeHolds, RunHolds}
+use Rattle.epic_app.specs.Doing.{Progress, by_commands, by_judgment, by_records, by_topology, doing, ends, gen_done, hop_done, judge_done, on_capture, on_commands, on_judged, on_topology, run_acts, run_by, run_with, showing, run_cut, run_done, whole, within, steps_acts}
 use Rattle.epic_app.specs.Showing.{Showing}
-use Rattle.epic_app.specs.FaultLines.{capture_line, fault_line, long_topology_line, read_line, too_long_line, topology_line}
+use Rattle.epic_app.specs.FaultLines.{capture_line, fault_line, file_line, long_topology_line, read_line, too_long_line, topology_line}
 use Rattle.epic_app.specs.Generating.{gen_text, generated_steps}
 use Rattle.epic_app.specs.HopFile.{hop_rule}
 use Rattle.epic_app.specs.HopReport.{answers, hop_report, is_forged}
-use Rattle.epic_app.specs.Limits.{file_limit, script_limit, topology_limit}
+use Rattle.epic_app.specs.Limits.{file_limit, limit_of, script_limit, topology_limit}
 use Rattle.epic_app.specs.Outcome.{ErrorSink, EndsBy, EndsUnder}
 use Rattle.epic_app.specs.Readings.{Reading, Whole, Failed, Unread, Holds, AreRead, IsRead}
-use Rattle.epic_words.specs.Request.{Request, Hop, Run, Gen, RunRequest, reads_of, shares_files}
+use Rattle.epic_words.specs.Request.{Request, Hop, Run, Gen, Judge, RunRequest, reads_of, shares_files}
 use Rattle.epic_app.specs.RunReport.{has_alarm, run_alarms}
 use Rattle.epic_app.proofs.ActFiles.{printed-prints}
 use Rattle.epic_app.proofs.ScriptCommands.{few_commands}
@@ -54,6 +62,7 @@ use Rattle.epic_app.proofs.RanLaws.{two_each}
 use Rattle.epic_app.proofs.AnswersHold.{answers_hold}
 use Rattle.epic_app.proofs.FewPackets.{HasFew}
 use Rattle.epic_app.proofs.GenClaims.{all_fit}
+use Rattle.epic_app.proofs.JudgmentLaws.{judgment_holds}
 
 -- ---- what decided a status of 0 or 1
 
@@ -276,6 +285,71 @@ gen_claims runs_hold seed packets old new status few end done =
       alarm = status_one (has_alarm steps) (has_alarm steps) status refl (ended_at (doing (Gen seed packets) []) status end);
     }
 
+-- ---- the command `judge`
+
+-- the bytes of a file that is judged decided
+record ByJudged (file : JudgedFile) (name : List ℕ) (reading : Reading) (next : List ℕ → Progress) : Type 0 where
+  bytes : List ℕ
+  is_whole : reading ≡ Whole bytes
+  leads : on_judged file name reading next ≡ next bytes
+
+judged_decides : (file : JudgedFile) (name : List ℕ) (reading : Reading) (next : List ℕ → Progress) (status : ℕ)
+    → status < 2 → IsEnd (on_judged file name reading next) status → ByJudged file name reading next
+unfolding on_judged whole within
+judged_decides file name (Failed front) next status below end = absurd (no_end [] 6 (read_line name) status (omega arith) below end)
+judged_decides file name Unread next status below (line, is) = absurd (cc)
+judged_decides file name (Whole bytes) next status below end = by (ltb (limit_of file) (length bytes)) refl end
+  where
+    by : (long : Bool) → ltb (limit_of file) (length bytes) ≡ long → IsEnd (cond long (ends [] 4 (file_line file 0 TooLong)) (next bytes)) status
+        → ByJudged file name (Whole bytes) next
+    by true e end = absurd (no_end [] 4 (file_line file 0 TooLong) status (omega arith) below end)
+    by false e end = record { bytes = bytes; is_whole = refl; leads = rw e refl }
+
+-- what was said decided
+said_decides : (r : Result Judged JudgeError) (status : ℕ) → status < 2 → IsEnd (by_judgment r judge_done) status → (said : Judged) × (r ≡ Ok said)
+unfolding by_judgment
+said_decides (Ok said) status below end = (said, refl)
+said_decides (Err (judge_error.Ledger line kind)) status below end = absurd (no_end [] 4 (file_line Ledger line kind) status (omega arith) below end)
+said_decides (Err (judge_error.Verdicts line kind)) status below end = absurd (no_end [] 4 (file_line Verdicts line kind) status (omega arith) below end)
+said_decides (Err judge_error.OutOfMemory) status below (line, is) = absurd (cc)
+
+judge_claims : JudgmentsAreDecided → (m n o : List ℕ) (old new : World) (first second third : Reading) (status : ℕ)
+    → IsRead old new m first → IsRead old new n second → IsRead old new o third → status < 2
+    → IsEnd (doing (Judge m n o) (first ∷ second ∷ third ∷ [])) status → Does (doing (Judge m n o) (first ∷ second ∷ third ∷ [])).acts old new
+    → JudgeHolds m n o old new status
+unfolding doing by_judgment judge_done
+judge_claims decided m n o old new first second third status read read_too read_last below end done =
+    let P : Progress → Type 0 = λ p. IsEnd p status in
+    let on_third : Network → List ℕ → Progress = λ t l. on_judged Verdicts o third (λ v. by_judgment (judgment t l v) judge_done) in
+    let on_second : Network → Progress = λ t. on_judged Ledger n second (on_third t) in
+    let top = topology_decides m first on_second status below end in
+    let t = top.network in
+    let end_second : IsEnd (on_second t) status = subst P top.leads end in
+    let happened = judged_decides Ledger n second (on_third t) status below end_second in
+    let l = happened.bytes in
+    let end_third : IsEnd (on_third t l) status = subst P happened.leads end_second in
+    let told = judged_decides Verdicts o third (λ v. by_judgment (judgment t l v) judge_done) status below end_third in
+    let v = told.bytes in
+    let end_last : IsEnd (by_judgment (judgment t l v) judge_done) status = subst P told.leads end_third in
+    let (said, is) = said_decides (judgment t l v) status below end_last in
+    let leads : doing (Judge m n o) (first ∷ second ∷ third ∷ []) ≡ judge_done said =
+    top.leads ∙ (happened.leads ∙ (told.leads ∙ ap (λ r. by_judgment r judge_done) is)) in
+    record {
+      text = top.bytes;
+      happened = l;
+      told = v;
+      is_topology = file_held old new m first top.bytes top.is_whole read;
+      is_ledger = file_held old new n second l happened.is_whole read_too;
+      are_verdicts = file_held old new o third v told.is_whole read_last;
+      network = t;
+      is_network = top.is;
+      said = said;
+      is_judgment = judgment_holds decided t l v said is;
+      report = text_printed (doing (Judge m n o) (first ∷ second ∷ third ∷ [])) (judged_text said) old new (ap (λ (p : Progress). p.acts) leads) done;
+      alarm = status_one (is_no said) (is_no said) status refl
+          (sym (ap (λ (p : Progress). ended_status p) leads) ∙ ended_at (doing (Judge m n o) (first ∷ second ∷ third ∷ [])) status end);
+    }
+
 -- ---- the whole
 
 -- a status below 6 was decided by what was read
@@ -299,7 +373,17 @@ gen_holds runs_hold seed packets old new e f status [] few read by below =
     gen_claims runs_hold seed packets old new status few end done
 gen_holds runs_hold seed packets old new e f status (reading ∷ more) few read by below = absurd read
 
-module _ (runs_hold : RunsHold) (spelled : CommandsAreSpelled) where
+judge_holds : JudgmentsAreDecided → (m n o : List ℕ) (old new : World) (e f : ErrorSink) (status : ℕ) (readings : List Reading) → AreRead old new (m ∷ n ∷ o ∷ []) readings
+    → EndsBy (doing (Judge m n o) readings) old new e f status → status < 2 → JudgeHolds m n o old new status
+judge_holds judgments m n o old new e f status [] read by below = absurd read
+judge_holds judgments m n o old new e f status (first ∷ []) (read, none) by below = absurd none
+judge_holds judgments m n o old new e f status (first ∷ second ∷ []) (read, (read_too, none)) by below = absurd none
+judge_holds judgments m n o old new e f status (first ∷ second ∷ third ∷ []) (read, (read_too, (read_last, none))) by below =
+    let (end, done) = decided _ old new e f status by below in
+    judge_claims judgments m n o old new first second third status read read_too read_last below end done
+judge_holds judgments m n o old new e f status (first ∷ second ∷ third ∷ fourth ∷ more) (read, (read_too, (read_last, many))) by below = absurd many
+
+module _ (runs_hold : RunsHold) (spelled : CommandsAreSpelled) (judgments : JudgmentsAreDecided) where
   run_holds : (r : RunRequest) (old new : World) (e f : ErrorSink) (status : ℕ) (readings : List Reading) → AreRead old new (reads_of (Run r)) readings
       → EndsBy (doing (Run r) readings) old new e f status → (status < 2 → AllByRecursion RecordsFit (drop 2 readings)) → shares_files (Run r) ≡ false → status < 2 → RunHolds r old new status
   run_holds r old new e f status [] read by fits unshared below = absurd read
@@ -315,3 +399,5 @@ module _ (runs_hold : RunsHold) (spelled : CommandsAreSpelled) where
   holds_under words (Some (Run r)) old new e f status few ended = λ below. run_holds r old new e f status ended.readings ended.are_read ended.ends ended.fits few below
   holds_under words (Some (Gen seed packets)) old new e f status few ended =
       λ below. gen_holds runs_hold seed packets old new e f status ended.readings few ended.are_read ended.ends below
+  holds_under words (Some (Judge topology ledger verdicts)) old new e f status few ended =
+      λ below. judge_holds judgments topology ledger verdicts old new e f status ended.readings ended.are_read ended.ends below

@@ -21,7 +21,7 @@ use Rattle.epic_world.specs.Run.{Done as DoneStep, run, run_from, state_after}
 use Rattle.epic_app.specs.Keeping.{kept_in}
 use Rattle.epic_app.specs.Kept.{Kept, names, opening}
 use Rattle.epic_app.specs.declared.end.End.{End}
-use Rattle.epic_app.specs.declared.end.End.TheVariants.{Done, BadWords, BadTopology, LongTopology, BadScript, LongScript, BadCapture, ReadFault, WriteFault, OutOfMemory}
+use Rattle.epic_app.specs.declared.end.End.TheVariants.{Done, BadWords, BadTopology, LongTopology, BadScript, LongScript, BadCapture, BadFile, ReadFault, WriteFault, OutOfMemory}
 use Rattle.epic_app.specs.declared.taking.Records.{Records}
 use Rattle.epic_app.specs.Showing.{Showing}
 use Rattle.epic_app.specs.Acts.{Act, World, Does, StopsBefore, prints}
@@ -298,6 +298,7 @@ IsFaultOf name LongTopology = ⊥
 IsFaultOf name (BadScript line kind) = ⊥
 IsFaultOf name LongScript = ⊥
 IsFaultOf name (BadCapture damage) = ⊥
+IsFaultOf name (BadFile file line kind) = ⊥
 IsFaultOf name WriteFault = ⊥
 IsFaultOf name OutOfMemory = ⊥
 
@@ -362,6 +363,7 @@ module _ (x : Records) (t : Network) (commands : List Command) (u old : World) (
     run_failed y (BadScript line kind) is tried = absurd is
     run_failed y LongScript is tried = absurd is
     run_failed y (BadCapture damage) is tried = absurd is
+    run_failed y (BadFile file line kind) is tried = absurd is
     run_failed y WriteFault is tried = absurd is
     run_failed y OutOfMemory is tried = absurd is
 

@@ -1,5 +1,5 @@
 -- The commands that a capture's records are, and the numbers that a report shows for steps.
-use Rattle.std.specs.Prelude.{ℕ, ◌+◌, ◌-◌, ◌/◌, min, List, [], ◌∷◌, ◌++◌, flat_map, ⊤}
+use Rattle.std.specs.Prelude.{ℕ, ◌+◌, ◌-◌, ◌/◌, min, drop, List, [], ◌∷◌, ◌++◌, flat_map, ⊤}
 use Rattle.std.specs.List.{All}
 use Rattle.epic_num.specs.declared.command.Command.{Command}
 use Rattle.epic_num.specs.declared.command.Command.TheVariants.{At, Turn, Arrive}
@@ -9,6 +9,7 @@ use Rattle.epic_capture.specs.Records.{Captured}
 use Rattle.epic_feed.specs.Forms.{records_in}
 use Rattle.epic_model.specs.World.{Fits}
 use Rattle.epic_app.specs.Readings.{Reading, Whole, Failed, Unread}
+use Rattle.epic_words.specs.Request.{Request, Hop, Run, Gen, Judge}
 
 -- a packet comes to the place where it is due
 abbrev pub due : Place → List ℕ → Command
@@ -35,3 +36,10 @@ abbrev pub RecordsFit : Reading → Type 0
 RecordsFit (Whole bytes) = All Fits (records_commands (records_in bytes).items)
 RecordsFit (Failed front) = ⊤
 RecordsFit Unread = ⊤
+
+-- those of a command's readings that are of a capture: a run's behind its topology and its script
+abbrev pub captures_of : Request → List Reading → List Reading
+captures_of (Hop key name) readings = []
+captures_of (Run r) readings = drop 2 readings
+captures_of (Gen seed packets) readings = []
+captures_of (Judge topology ledger verdicts) readings = []

@@ -5,6 +5,8 @@ use Rattle.epic_num.specs.declared.command.Command.{Command}
 use Rattle.epic_capture.specs.Records.{Captured}
 use Rattle.epic_capture.specs.Saving.{saved}
 use Rattle.epic_feed.specs.Forms.{records_in}
+use Rattle.epic_judging.specs.declared.judged.Judged.{Judged}
+use Rattle.epic_judging.specs.Judgment.{IsJudgment}
 use Rattle.epic_ports.specs.Files.{Files}
 use Rattle.epic_ports.specs.Written.{Appends}
 use Rattle.epic_record.specs.LedgerText.{ledger_text}
@@ -27,8 +29,9 @@ use Rattle.epic_app.specs.Generating.{gen_text, generated_steps}
 use Rattle.epic_app.specs.HopFile.{hop_rule}
 use Rattle.epic_app.specs.HopReport.{AllHold, is_forged, report_text}
 use Rattle.epic_rerun.specs.Ledgers.{items_told, verdicts_told}
+use Rattle.epic_app.specs.JudgeReport.{is_no, judged_text}
 use Rattle.epic_app.specs.Readings.{Holds}
-use Rattle.epic_words.specs.Request.{Request, Hop, Run, Gen, RunRequest, request_of}
+use Rattle.epic_words.specs.Request.{Request, Hop, Run, Gen, Judge, RunRequest, request_of}
 use Rattle.epic_app.specs.RunReport.{run_text, has_alarm, run_alarms}
 use Rattle.epic_app.specs.Saved.{captured_by}
 
@@ -87,11 +90,28 @@ pub record GenHolds (seed packets : ℕ) (old new : World) (status : ℕ) : Type
   pub report : Appends old.written new.written (gen_text (generated_network seed) (generated_steps seed packets))
   pub alarm : (status ≡ 1) ↔ IsTrue (has_alarm (generated_steps seed packets))
 
+-- The files hold a topology, a ledger's lines and verdict lines. The line tells the judgment on these: yes, where each verdict line is
+-- true over the ledger's lines before what it speaks of, or no and the first that isn't. Status 1 tells no.
+pub record JudgeHolds (topology ledger verdicts : List ℕ) (old new : World) (status : ℕ) : Type 0 where
+  pub text : List ℕ
+  pub happened : List ℕ
+  pub told : List ℕ
+  pub is_topology : Holds old.contents topology text
+  pub is_ledger : Holds old.contents ledger happened
+  pub are_verdicts : Holds old.contents verdicts told
+  pub network : Network
+  pub is_network : topology_of text ≡ Ok network
+  pub said : Judged
+  pub is_judgment : IsJudgment network happened told (Ok said)
+  pub report : Appends old.written new.written (judged_text said)
+  pub alarm : (status ≡ 1) ↔ IsTrue (is_no said)
+
 abbrev pub HoldsUnder : Option Request → World → World → ℕ → Type 0
 HoldsUnder None old new status = ⊤
 HoldsUnder (Some (Hop key name)) old new status = status < 2 → HopHolds key name old new status
 HoldsUnder (Some (Run r)) old new status = status < 2 → RunHolds r old new status
 HoldsUnder (Some (Gen seed packets)) old new status = status < 2 → GenHolds seed packets old new status
+HoldsUnder (Some (Judge topology ledger verdicts)) old new status = status < 2 → JudgeHolds topology ledger verdicts old new status
 
 abbrev pub ReportHolds : List (List ℕ) → World → World → ℕ → Type 0
 ReportHolds words old new status = HoldsUnder (request_of words) old new status

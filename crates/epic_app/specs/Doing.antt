@@ -9,24 +9,31 @@ use Rattle.epic_topo.specs.Reading.{topology as topology_of}
 use Rattle.epic_topo.specs.declared.fault.TopoError.{TopoError}
 use Rattle.epic_topo.specs.declared.fault.TopoError.TheVariants.{Bad, OutOfMemory}
 use Rattle.epic_gen.specs.Topology.{generated_network}
+use Rattle.epic_judging.specs.declared.judged.Judged.{Judged}
+use Rattle.epic_judging.specs.declared.judged.JudgeError.{JudgeError}
+use Rattle.epic_judging.specs.declared.judged.JudgeError.TheVariants as judge_error
+use Rattle.epic_record.specs.declared.fault.FileKind.TheVariants.{TooLong}
 use Rattle.epic_text.specs.Counts.{counts_of, end_line}
 use Rattle.epic_text.specs.RunScript.{run_rule}
 use Rattle.epic_text.specs.Script.{Fault, Rule, commands_of}
 use Rattle.epic_world.specs.Run.{Done, run}
 use Rattle.epic_app.specs.declared.hop_file.HopCommand.{HopCommand}
+use Rattle.epic_app.specs.declared.judge_file.JudgedFile.{JudgedFile}
+use Rattle.epic_app.specs.declared.judge_file.JudgedFile.TheVariants.{Ledger, Verdicts}
 use Rattle.epic_app.specs.Showing.{Showing}
 use Rattle.epic_app.specs.Acts.{Act, prints}
 use Rattle.epic_app.specs.Along.{along}
 use Rattle.epic_app.specs.Captures.{run_commands, shown}
-use Rattle.epic_app.specs.FaultLines.{capture_line, fault_line, long_topology_line, read_line, too_long_line, topology_line}
+use Rattle.epic_app.specs.FaultLines.{capture_line, fault_line, file_line, long_topology_line, read_line, too_long_line, topology_line}
 use Rattle.epic_app.specs.Generating.{gen_text, generated_steps}
 use Rattle.epic_app.specs.HopFile.{hop_rule}
 use Rattle.epic_app.specs.HopReport.{answers, hop_report, is_forged}
+use Rattle.epic_app.specs.JudgeReport.{is_no, judged_text, judgment}
 use Rattle.epic_app.specs.Keeping.{kept_by}
 use Rattle.epic_app.specs.Kept.{Kept, adding, opening}
-use Rattle.epic_app.specs.Limits.{file_limit, script_limit, topology_limit}
+use Rattle.epic_app.specs.Limits.{file_limit, limit_of, script_limit, topology_limit}
 use Rattle.epic_app.specs.Readings.{Reading, Whole, Failed, Unread}
-use Rattle.epic_words.specs.Request.{Request, Hop, Run, Gen, RunRequest}
+use Rattle.epic_words.specs.Request.{Request, Hop, Run, Gen, Judge, RunRequest}
 use Rattle.epic_app.specs.RunReport.{all_verdicts, has_alarm, run_alarms, step_text}
 
 pub record Progress : Type 0 where
@@ -72,9 +79,21 @@ unfoldable pub on_commands : {C : Type 0} → List ℕ → ℕ → Rule C → Re
 on_commands name limit rule reading next =
     whole name reading (λ text. within limit 4 too_long_line text (by_commands (commands_of rule text) next))
 
+-- what follows from the bytes of a file that is judged
+unfoldable pub on_judged : JudgedFile → List ℕ → Reading → (List ℕ → Progress) → Progress
+on_judged file name reading next =
+    whole name reading (λ text. within (limit_of file) 4 (file_line file 0 TooLong) text (next text))
+
+-- what follows from what is said of two files
+unfoldable pub by_judgment : Result Judged JudgeError → (Judged → Progress) → Progress
+by_judgment (Ok said) next = next said
+by_judgment (Err (judge_error.Ledger line kind)) next = ends [] 4 (file_line Ledger line kind)
+by_judgment (Err (judge_error.Verdicts line kind)) next = ends [] 4 (file_line Verdicts line kind)
+by_judgment (Err judge_error.OutOfMemory) next = goes_on []
+
 -- ---- commands
 
--- 1 tells that some tag was forged, or that two hops have one
+-- 1 tells that some tag was forged, or that two hops have one, or that some verdict isn't true
 abbrev pub alarm_status : Bool → ℕ
 alarm_status alarm = if alarm then 1 else 0
 
@@ -139,6 +158,10 @@ gen_done seed packets =
     let steps = generated_steps seed packets in
     ends (prints (gen_text (generated_network seed) steps)) (alarm_status (has_alarm steps)) []
 
+-- what is said of two files is written
+unfoldable pub judge_done : Judged → Progress
+judge_done said = ends (prints (judged_text said)) (alarm_status (is_no said)) []
+
 -- What a command does and how it ends, from a reading of each of its files; they are looked at in order, and the first that
 -- refuses or fails decides.
 unfoldable pub doing : Request → List Reading → Progress
@@ -146,4 +169,8 @@ doing (Hop key name) (file ∷ []) = on_commands name file_limit hop_rule file (
 doing (Run r) (first ∷ second ∷ rest) =
     on_topology r.topology first (λ t. on_commands r.script script_limit run_rule second (run_with r rest t))
 doing (Gen seed packets) [] = gen_done seed packets
+doing (Judge topology ledger verdicts) (first ∷ second ∷ third ∷ []) =
+    on_topology topology first (λ t.
+    on_judged Ledger ledger second (λ l.
+    on_judged Verdicts verdicts third (λ v. by_judgment (judgment t l v) judge_done)))
 doing request readings = goes_on []

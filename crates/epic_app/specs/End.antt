@@ -1,15 +1,15 @@
 -- How a command's code says that it ended.
-use Rattle.std.specs.Prelude.{◌≡◌, ℕ, ◌<◌, drop, if◌then◌else◌, Bool, List, [], Option, Some, None, Result, Ok, Err, Contains, IsTrue, codes, ◌⊎◌, ⊤}
+use Rattle.std.specs.Prelude.{◌≡◌, ℕ, ◌<◌, if◌then◌else◌, Bool, List, [], Option, Some, None, Result, Ok, Err, Contains, IsTrue, codes, ◌⊎◌, ⊤}
 use Rattle.std.specs.List.{AllByRecursion}
 use Rattle.epic_ports.specs.Faults.{Rose}
 use Rattle.epic_ports.specs.declared.error.PortError.{PortError}
 use Rattle.epic_ports.specs.declared.error.PortError.TheVariants as port_error
 use Rattle.epic_app.specs.declared.end.End.{End}
-use Rattle.epic_app.specs.declared.end.End.TheVariants.{Done, BadWords, BadTopology, LongTopology, BadScript, LongScript, BadCapture, ReadFault, WriteFault, OutOfMemory}
+use Rattle.epic_app.specs.declared.end.End.TheVariants.{Done, BadWords, BadTopology, LongTopology, BadScript, LongScript, BadCapture, BadFile, ReadFault, WriteFault, OutOfMemory}
 use Rattle.epic_app.specs.Acts.{World, Does, StopsAt, StopsBefore}
-use Rattle.epic_app.specs.Captures.{RecordsFit}
+use Rattle.epic_app.specs.Captures.{RecordsFit, captures_of}
 use Rattle.epic_app.specs.Doing.{Progress, doing}
-use Rattle.epic_app.specs.FaultLines.{words_line, topology_line, long_topology_line, fault_line, too_long_line, capture_line, read_line, write_line, memory_line}
+use Rattle.epic_app.specs.FaultLines.{words_line, topology_line, long_topology_line, fault_line, too_long_line, capture_line, file_line, read_line, write_line, memory_line}
 use Rattle.epic_app.specs.Outcome.{CountsStay, FilesStay, WriteRose}
 use Rattle.epic_app.specs.Readings.{Reading, AreRead}
 use Rattle.epic_words.specs.Request.{Request, is_command, reads_of}
@@ -22,6 +22,7 @@ status_of LongScript = 4
 status_of (BadTopology kind key item) = 3
 status_of LongTopology = 3
 status_of (BadCapture damage) = 5
+status_of (BadFile file line kind) = 4
 status_of (ReadFault name) = 6
 status_of WriteFault = 7
 status_of OutOfMemory = 8
@@ -35,6 +36,7 @@ line_of LongScript = too_long_line
 line_of (BadTopology kind key item) = topology_line kind key item
 line_of LongTopology = long_topology_line
 line_of (BadCapture damage) = capture_line damage
+line_of (BadFile file line kind) = file_line file line kind
 line_of (ReadFault name) = read_line name.now
 line_of WriteFault = write_line
 line_of OutOfMemory = memory_line
@@ -62,7 +64,7 @@ pub record EndsAs (request : Request) (old new : World) (end : End) : Type 0 whe
   pub are_read : AreRead old new (reads_of request) readings
   pub cause : HasCause (doing request readings) old new end
   pub blames : Blames request old new end
-  pub fits : status_of end < 2 → AllByRecursion RecordsFit (drop 2 readings)
+  pub fits : status_of end < 2 → AllByRecursion RecordsFit (captures_of request readings)
   pub counts : CountsStay request old new
   pub files : FilesStay request old.contents new.contents
 

@@ -5,8 +5,12 @@ use Rattle.epic_topo.specs.declared.fault.TopoKey.{TopoKey}
 use Rattle.epic_topo.specs.declared.fault.TopoKind.{TopoKind}
 use Rattle.epic_text.specs.declared.script.ScriptKind.{ScriptKind}
 use Rattle.epic_text.specs.declared.script.ScriptKind.TheVariants.{NotText, UnknownVerb, WordCount, BadWord, TooMany}
+use Rattle.epic_record.specs.declared.fault.FileKind.{FileKind}
+use Rattle.epic_record.specs.declared.fault.FileKind.TheVariants as file
 use Rattle.epic_feed.specs.declared.damage.Damage.{Damage}
 use Rattle.epic_feed.specs.Damages.{offset_of, word_of}
+use Rattle.epic_app.specs.declared.judge_file.JudgedFile.{JudgedFile}
+use Rattle.epic_app.specs.declared.judge_file.JudgedFile.TheVariants.{Ledger, Verdicts}
 use Rattle.epic_app.specs.HopReport.{◌⊕◌}
 
 abbrev pub words_line : List ℕ
@@ -43,6 +47,28 @@ read_line name = codes "epic: read " ⊕ (name ⊕ codes "\n")
 abbrev pub capture_line : Damage → List ℕ
 capture_line damage =
     codes "epic: capture " ⊕ (word_of damage ⊕ (codes " " ⊕ (decimal (offset_of damage) ⊕ codes "\n")))
+
+abbrev pub file_word : JudgedFile → List ℕ
+file_word Ledger = codes "ledger"
+file_word Verdicts = codes "verdicts"
+
+abbrev pub file_kind_text : FileKind → List ℕ
+file_kind_text file.NotText = codes "not-text"
+file_kind_text file.UnknownVerb = codes "unknown-verb"
+file_kind_text file.WordCount = codes "word-count"
+file_kind_text (file.BadWord word) = codes "bad-word " ⊕ decimal word
+file_kind_text file.BadPlace = codes "bad-place"
+file_kind_text file.Missing = codes "missing"
+file_kind_text file.Extra = codes "extra"
+file_kind_text file.TooLong = codes "too-long"
+
+abbrev pub named_file_line : JudgedFile → ℕ → List ℕ → List ℕ
+named_file_line which line name =
+    codes "epic: " ⊕ (file_word which ⊕ (codes " " ⊕ (decimal line ⊕ (codes " " ⊕ (name ⊕ codes "\n")))))
+
+-- a file that is judged is refused at a line; 0 stands for the whole file
+abbrev pub file_line : JudgedFile → ℕ → FileKind → List ℕ
+file_line which line kind = named_file_line which line (file_kind_text kind)
 
 abbrev pub write_line : List ℕ
 write_line = codes "epic: write\n"

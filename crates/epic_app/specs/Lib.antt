@@ -9,6 +9,8 @@ pub mod FilesRead
 pub mod Generating
 pub mod HopFile
 pub mod HopReport
+pub mod JudgeEnding
+pub mod JudgeReport
 pub mod Keeping
 pub mod Kept
 pub mod KeptFiles

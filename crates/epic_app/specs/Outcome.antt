@@ -1,11 +1,11 @@
 -- How a command may end: the contract of the top call. A new command changes nothing here.
-use Rattle.std.specs.Prelude.{◌≡◌, ℕ, ◌<◌, ◌⊎◌, List, drop, Option, Some, None, Contains, IsTrue, codes, ⊤}
+use Rattle.std.specs.Prelude.{◌≡◌, ℕ, ◌<◌, ◌⊎◌, List, Option, Some, None, Contains, IsTrue, codes, ⊤}
 use Rattle.std.specs.List.{AllByRecursion}
 use Rattle.epic_ports.specs.Faults.{Rose}
 use Rattle.epic_ports.specs.Files.{Files}
 use Rattle.epic_ports.specs.Written.{Appends, WritesBefore}
 use Rattle.epic_app.specs.Acts.{World, Does, StopsAt, StopsBefore}
-use Rattle.epic_app.specs.Captures.{RecordsFit}
+use Rattle.epic_app.specs.Captures.{RecordsFit, captures_of}
 use Rattle.epic_app.specs.Doing.{Progress, doing}
 use Rattle.epic_app.specs.FaultLines.{memory_line, words_line, write_line}
 use Rattle.epic_app.specs.Readings.{Reading, AreRead}
@@ -85,7 +85,7 @@ pub record EndsWith (request : Request) (old new : World) (e f : ErrorSink) (sta
   -- where nothing fails, the files decide, or memory is wanting
   pub complete : NoFault request old new → (status < 6) ⊎ (status ≡ 8)
   -- what was read of a capture fits its types, where the run was done
-  pub fits : status < 2 → AllByRecursion RecordsFit (drop 2 readings)
+  pub fits : status < 2 → AllByRecursion RecordsFit (captures_of request readings)
   pub counts : CountsStay request old new
   pub files : FilesStay request old.contents new.contents
 

@@ -11,7 +11,7 @@ use Rattle.epic_model.specs.State.{start}
 use Rattle.epic_world.specs.Run.{run, state_after}
 use Rattle.epic_words.specs.Request.{RunRequest, Run, shares_files}
 use Rattle.epic_app.specs.declared.end.End.{End}
-use Rattle.epic_app.specs.declared.end.End.TheVariants.{Done, BadWords, BadTopology, LongTopology, BadScript, LongScript, BadCapture, ReadFault, WriteFault, OutOfMemory}
+use Rattle.epic_app.specs.declared.end.End.TheVariants.{Done, BadWords, BadTopology, LongTopology, BadScript, LongScript, BadCapture, BadFile, ReadFault, WriteFault, OutOfMemory}
 use Rattle.epic_app.specs.declared.taking.Records.{Records}
 use Rattle.epic_app.specs.Acts.{World, Does}
 use Rattle.epic_app.specs.Captures.{RecordsFit}
@@ -49,6 +49,7 @@ RunBlames capture kept old new LongTopology = ⊤
 RunBlames capture kept old new (BadScript line kind) = ⊤
 RunBlames capture kept old new LongScript = ⊤
 RunBlames capture kept old new (BadCapture damage) = ⊤
+RunBlames capture kept old new (BadFile file line kind) = ⊤
 RunBlames capture kept old new (ReadFault name) =
     Contains (option_to_list capture) name.now × Rose (old.reads name.now) (new.reads name.now)
 RunBlames capture kept old new WriteFault = Blamed kept old new

@@ -3,13 +3,17 @@
 ghost use Rattle.std.specs.Prelude.{◌≡◌, ◌≤◌, flat_map, OnOk, OnErr};
 ghost use Rattle.epic_ports.specs.Faults.{FailsOnlyBy};
 ghost use Rattle.epic_ports.specs.Written.{Appends, WritesBefore};
+ghost use Rattle.epic_record.specs.declared.fault.FileKind.TheVariants as file_kind;
 ghost use Rattle.epic_text.specs.declared.script.ScriptKind.TheVariants.{BadWord};
 ghost use Rattle.epic_app.specs.End.{end_after, line_of, status_of};
-ghost use Rattle.epic_app.specs.FaultLines.{capture_line, fault_line, named_line, topology_line};
+ghost use Rattle.epic_app.specs.FaultLines.{capture_line, fault_line, file_line, named_file_line};
+ghost use Rattle.epic_app.specs.FaultLines.{named_line, topology_line};
 ghost use Rattle.epic_app.specs.Outcome.{Tells, error_sink};
 
+use crate::judge_file::JudgedFile;
 use epic_feed::Damage;
 use epic_ports::{PortError, Sink, write_all};
+use epic_record::FileKind;
 use epic_text::ScriptKind;
 use epic_topo::{TopoKey, TopoKind};
 use itoa::Buffer;
@@ -17,7 +21,8 @@ use itoa::Buffer;
 /// How a command ended.
 #[derive(Clone, Copy, Debug)]
 pub enum End<'a> {
-    /// The run was done; some tag was forged or stands for two hops, or none.
+    /// The command was done; some tag was forged or stands for two hops, or some verdict isn't true,
+    /// or none.
     Done {
         forged: bool,
     },
@@ -40,6 +45,12 @@ pub enum End<'a> {
     LongScript,
     /// The capture holds a damage.
     BadCapture(Damage),
+    /// This line of a file that is judged, counted from 1, is refused; 0 stands for the whole file.
+    BadFile {
+        file: JudgedFile,
+        line: u32,
+        kind: FileKind,
+    },
     /// A read of the file with this name failed.
     ReadFault(&'a str),
     /// A write failed.
@@ -56,7 +67,7 @@ impl End<'_> {
             End::Done { forged } => u8::from(*forged),
             End::BadWords => 2,
             End::BadTopology { .. } | End::LongTopology => 3,
-            End::BadScript { .. } | End::LongScript => 4,
+            End::BadScript { .. } | End::LongScript | End::BadFile { .. } => 4,
             End::BadCapture(_) => 5,
             End::ReadFault(_) => 6,
             End::WriteFault => 7,
@@ -200,6 +211,88 @@ fn write_damage<E: Sink>(err: &mut E, damage: Damage) -> Result<(), PortError>
     )
 }
 
+/// Writes the line of a judged file's fault that has a name alone.
+fn write_named_fault<E: Sink>(
+    err: &mut E,
+    file: JudgedFile,
+    line: u32,
+    name: &'static [u8],
+) -> Result<(), PortError>
+    ensures ok { OnOk result (Appends (E.written err.old) (E.written err.new)
+        (named_file_line file line name.now)) }
+    ensures err { OnErr result (WritesBefore (E.written err.old) (E.written err.new)
+        (named_file_line file line name.now)) }
+    ensures cause { FailsOnlyBy (E.faults err.old) (E.faults err.new) result }
+{
+    let mut number = Buffer::new();
+    write_pieces(
+        err,
+        &[
+            b"epic: ",
+            file.word().as_bytes(),
+            b" ",
+            number.format(line).as_bytes(),
+            b" ",
+            name,
+            b"\n",
+        ],
+    )
+}
+
+/// Writes the line of the fault of a word in a judged file.
+fn write_file_word<E: Sink>(
+    err: &mut E,
+    file: JudgedFile,
+    line: u32,
+    word: u32,
+) -> Result<(), PortError>
+    ensures ok { OnOk result (Appends (E.written err.old) (E.written err.new)
+        (file_line file line (file_kind.BadWord word))) }
+    ensures err { OnErr result (WritesBefore (E.written err.old) (E.written err.new)
+        (file_line file line (file_kind.BadWord word))) }
+    ensures cause { FailsOnlyBy (E.faults err.old) (E.faults err.new) result }
+{
+    let mut line_digits = Buffer::new();
+    let mut word_digits = Buffer::new();
+    write_pieces(
+        err,
+        &[
+            b"epic: ",
+            file.word().as_bytes(),
+            b" ",
+            line_digits.format(line).as_bytes(),
+            b" bad-word ",
+            word_digits.format(word).as_bytes(),
+            b"\n",
+        ],
+    )
+}
+
+/// Writes the line of a judged file's fault.
+fn write_file_fault<E: Sink>(
+    err: &mut E,
+    file: JudgedFile,
+    line: u32,
+    kind: FileKind,
+) -> Result<(), PortError>
+    ensures ok { OnOk result (Appends (E.written err.old) (E.written err.new)
+        (file_line file line kind)) }
+    ensures err { OnErr result (WritesBefore (E.written err.old) (E.written err.new)
+        (file_line file line kind)) }
+    ensures cause { FailsOnlyBy (E.faults err.old) (E.faults err.new) result }
+{
+    match kind {
+        FileKind::NotText => write_named_fault(err, file, line, b"not-text"),
+        FileKind::UnknownVerb => write_named_fault(err, file, line, b"unknown-verb"),
+        FileKind::WordCount => write_named_fault(err, file, line, b"word-count"),
+        FileKind::BadWord { word } => write_file_word(err, file, line, word),
+        FileKind::BadPlace => write_named_fault(err, file, line, b"bad-place"),
+        FileKind::Missing => write_named_fault(err, file, line, b"missing"),
+        FileKind::Extra => write_named_fault(err, file, line, b"extra"),
+        FileKind::TooLong => write_named_fault(err, file, line, b"too-long"),
+    }
+}
+
 /// Writes the line of `end`, if it has one.
 fn write_end<E: Sink>(err: &mut E, end: &End<'_>) -> Result<(), PortError>
     ensures ok { OnOk result (Appends (E.written err.old) (E.written err.new) (line_of end.now)) }
@@ -215,6 +308,7 @@ fn write_end<E: Sink>(err: &mut E, end: &End<'_>) -> Result<(), PortError>
         End::LongTopology => write_all(err, b"epic: topology too-long text 0\n"),
         End::LongScript => write_all(err, b"epic: script too-long\n"),
         End::BadCapture(damage) => write_damage(err, *damage),
+        End::BadFile { file, line, kind } => write_file_fault(err, *file, *line, *kind),
         End::ReadFault(name) => write_pieces(err, &[b"epic: read ", name.as_bytes(), b"\n"]),
         End::WriteFault => write_all(err, b"epic: write\n"),
         End::OutOfMemory => write_all(err, b"epic: memory\n"),

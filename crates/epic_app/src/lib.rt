@@ -1,4 +1,5 @@
-//! The program's commands: the run of many actors over a topology, and one AS that issues hops and checks their fields.
+//! The program's commands: the run of many actors over a topology, one AS that issues hops and checks their fields, and the judge of
+//! what a run wrote.
 #![tactic(auto)]
 
 mod end;
@@ -9,6 +10,9 @@ mod hop;
 mod hop_answer;
 mod hop_file;
 mod hop_report;
+mod judge;
+mod judge_file;
+mod judge_report;
 mod judging;
 mod keeping;
 mod laws;

@@ -1,4 +1,4 @@
-//! Tests of the commands `hop` and `gen`.
+//! Tests of the commands `hop`, `gen` and `judge`.
 
 use crate::epic;
 use epic_ports::{MemSink, MemStore};
@@ -158,13 +158,22 @@ fn files_that_are_refused(rt: HostRuntime) -> Result<(), Fail> {
 }
 
 #[test]
-fn lines_of_a_generated_run(rt: HostRuntime) -> Result<(), Fail> {
-    let run = run_words(&rt, rt.alloc(), &["gen", "7", "20"], b"", NO_FAULTS)?;
-    let out = "end 74 accepted 170 proved 170 opened 0 forged 0 collided 0 unclaimed 10\n\
-        digest 4285b2de4a5c1e3914053de1fb86829f\n";
-    assert_eq!(rt; run.out.written(), out.as_bytes());
-    assert_eq!(rt; run.err.written(), b"".as_slice());
-    assert_eq!(rt; run.status, 0);
+fn lines_of_gen_and_judge(rt: HostRuntime) -> Result<(), Fail> {
+    let commands: [(&[&str], &str); 2] = [
+        (
+            &["gen", "7", "20"],
+            "end 74 accepted 170 proved 170 opened 0 forged 0 collided 0 unclaimed 10\n\
+            digest 4285b2de4a5c1e3914053de1fb86829f\n",
+        ),
+        // An empty topology is one, and nothing was said of nothing.
+        (&["judge", "f", "f", "f"], "judged 0 yes\n"),
+    ];
+    for (words, out) in commands {
+        let run = run_words(&rt, rt.alloc(), words, b"", NO_FAULTS)?;
+        assert_eq!(rt; run.out.written(), out.as_bytes());
+        assert_eq!(rt; run.err.written(), b"".as_slice());
+        assert_eq!(rt; run.status, 0);
+    }
     Ok(())
 }
 

@@ -12,7 +12,9 @@ ghost use Rattle.epic_words.specs.Request.{request_of};
 use crate::end::{End, tell};
 use crate::generating::generate;
 use crate::hop::hop;
+use crate::judge::judge;
 use crate::run::run;
+use epic_judging::judgments_are_decided;
 use epic_ports::{Sink, Store};
 use epic_text::commands_are_spelled;
 use epic_words::{Asked, WordsError, asked_for};
@@ -37,6 +39,7 @@ fn perform<'a, S: Store, O: Sink>(
         Ok(Asked::Hop(words)) => hop(alloc, &words.key, words.file, store, out),
         Ok(Asked::Run(words)) => run(alloc, &words, store, out),
         Ok(Asked::Gen(words)) => generate(alloc, &words, out),
+        Ok(Asked::Judge(words)) => judge(alloc, &words, store, out),
         Err(WordsError::Refused) => End::BadWords,
         Err(WordsError::OutOfMemory) => End::OutOfMemory,
     }
@@ -45,9 +48,10 @@ fn perform<'a, S: Store, O: Sink>(
 /// Does what the words after the program's name ask for, over a store of files, an output and a
 /// sink for errors, and answers the status of the process.
 ///
-/// 0: the run was done, and no verdict is forged or collided, or no check of `hop` forged; 1: some
-/// is. 2: the words are no command. 3: the topology is refused. 4: the script, or the file of
-/// `hop`, is refused. 5: the capture holds a damage; its records up to it were done. 6: a read
+/// 0: the run was done, and no verdict is forged or collided, or no check of `hop` forged, or each
+/// verdict that `judge` read is true; 1: some is, or some isn't. 2: the words are no command. 3: the
+/// topology is refused. 4: the script, the file of `hop`, or one of the two files of `judge` is
+/// refused. 5: the capture holds a damage; its records up to it were done. 6: a read
 /// failed. 7: a write failed. 8: memory was wanting. The errors get the line of the status.
 pub fn epic<S: Store, O: Sink, E: Sink>(
     alloc: Global,
@@ -63,7 +67,9 @@ pub fn epic<S: Store, O: Sink, E: Sink>(
     // honest packets are carried. A saved file is a capture of what was emitted, a ledger file has the
     // lines of all that happened, and a verdict file those of all verdicts. In the report of
     // `hop` each `accept proved K` names an earlier issue of that body, each `accept forged` is a
-    // right field of a body that no earlier line issued, and each refused field is wrong.
+    // right field of a body that no earlier line issued, and each refused field is wrong. The line of
+    // `judge` says yes exactly where each verdict line is true over the ledger's lines before what it
+    // speaks of, and else names the first that isn't.
     ensures report_holds { ReportHolds (map string_bytes words.now)
         (world (S.contents store.old) (S.reads store.old) (S.writes store.old)
         (O.written out.old) (O.faults out.old))
@@ -84,9 +90,10 @@ pub fn epic<S: Store, O: Sink, E: Sink>(
     // The commands of a script, and moments, are within these limits.
     ensures limits { KeepsLimits }
 {
-    // What the report of a run claims rests on these laws.
+    // What the reports of a run and of the judge claim rests on these laws.
     runs_hold();
     commands_are_spelled();
+    judgments_are_decided();
     let end = perform(alloc, words, store, out);
     tell(err, &end);
     end.status()

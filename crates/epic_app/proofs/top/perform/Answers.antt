@@ -1,7 +1,7 @@
 use Rattle.std.proofs.Common.{rules, map, ◌≡◌, Some, subst}
 use Rattle.std.specs.String.{string_bytes}
 use Rattle.epic_words.specs.Answers.{names_in}
-use Rattle.epic_words.specs.Request.{Hop, Run, Gen, request_of}
+use Rattle.epic_words.specs.Request.{Hop, Run, Gen, Judge, request_of}
 use Rattle.epic_app.specs.Acts.{world}
 use Rattle.epic_app.proofs.EndLaws.{asked_for, memory_for, refused_for, unshared_for}
 use Rattle.epic_app.proofs.FewPackets.{HasFew, few_requests}
@@ -37,6 +37,12 @@ returns-in-Ok-Gen g c =
     let is : request_of (map string_bytes c.args.words.now) ≡ Some (Gen words.seed words.packets) = rw c.in-Ok-Gen.field-0-is at c.in-Ok-Gen.ensures.asks in
     asked_for (map string_bytes c.args.words.now) _ _ _ _ is
     (c.generate.ensures (g.S.Store.contents c.args.store.now) (g.S.Store.reads c.args.store.now) (g.S.Store.writes c.args.store.now))
+
+pub returns-in-Ok-Judge : goal.returns-in-Ok-Judge
+returns-in-Ok-Judge g c =
+    let words = c.in-Ok-Judge.words in
+    let is : request_of (map string_bytes c.args.words.now) ≡ Some (Judge words.topology.now words.ledger.now words.verdicts.now) = rw c.in-Ok-Judge.field-0-is at c.in-Ok-Judge.ensures.asks in
+    asked_for (map string_bytes c.args.words.now) _ _ _ _ is c.judge.ensures
 
 pub returns-in-Err-Refused : goal.returns-in-Err-Refused
 returns-in-Err-Refused g c = refused_for (map string_bytes c.args.words.now) _ (rw c.in-Err-Refused.field-0-is at c.in-Err-Refused.ensures.asks)
