@@ -1,6 +1,6 @@
 //! The lines of passes.
 
-ghost use Rattle.std.specs.Prelude.{◌≡◌, ◌<◌, length, IfOk, None};
+ghost use Rattle.std.specs.Prelude.{◌≡◌, ◌<◌, ◌++◌, length, IfOk, OnOk, None};
 ghost use Rattle.std.specs.List.{All};
 ghost use Rattle.std.specs.String.{string_bytes};
 ghost use Rattle.epic_num.specs.Levels.{is_first_byte};
@@ -11,7 +11,7 @@ ghost use Rattle.epic_text.specs.Report as spec;
 ghost use Rattle.epic_text.specs.Report.{IsToldPass};
 ghost use Rattle.epic_text.specs.VerdictText.{IsTellable};
 
-use crate::line::{allocated, append, bytes_text, print_line};
+use crate::line::{allocated, append, print_line, print_packet};
 use crate::notes::Notes;
 use crate::refusal_words::{arrival_words, turn_words};
 use crate::verdict_text::{print_dest, print_hop};
@@ -21,26 +21,30 @@ use epic_topo::Topology;
 use epic_view::PacketRef;
 use std::alloc::{AllocError, Global};
 
-/// What a router did. The bytes are those of the emission that it made.
-fn turned_words(
-    alloc: Global,
+/// The room that is made for the lines of a pass besides its packet's digits.
+const SPARE: usize = 256;
+
+/// Appends the line of what a router did. The bytes are those of the emission that it made.
+fn print_turned(
+    to: &mut Vec<u8>,
+    step: u32,
     emission: u32,
     bytes: &[u8],
     turn: &Turn,
-) -> Result<String, AllocError>
-    ensures { IfOk result (λ words. string_bytes words ≡
-        words_text (spec.turned_words emission bytes.now turn.now)) }
+) -> Result<(), OutOfMemory>
+    ensures { Prints to.old.items to.new.items
+        (step_line step (spec.turned_words emission bytes.now turn.now))
+        result }
 {
     match turn {
         Turn::Forward { out, .. } => {
-            let bytes = bytes_text(alloc, bytes)?;
-            format!(in alloc; "forward {out} {emission} {bytes}")
+            print_packet(to, step, b"forward", u32::from(*out), emission, bytes)
         }
-        Turn::Deliver { host, .. } => {
-            let bytes = bytes_text(alloc, bytes)?;
-            format!(in alloc; "deliver {host} {emission} {bytes}")
+        Turn::Deliver { host, .. } => print_packet(to, step, b"deliver", *host, emission, bytes),
+        Turn::Refused { check, hop } => {
+            let words = allocated(turn_words(*to.allocator(), check, *hop))?;
+            print_line(to, step, words.as_bytes())
         }
-        Turn::Refused { check, hop } => turn_words(alloc, check, *hop),
     }
 }
 
@@ -53,23 +57,6 @@ fn arrived_words(alloc: Global, arrival: &Arrival) -> Result<String, AllocError>
         Arrival::Accepted => String::from_str(alloc, "accepted"),
         Arrival::Unchecked => String::from_str(alloc, "unchecked"),
         Arrival::Refused(check) => arrival_words(alloc, check),
-    }
-}
-
-/// What became of a packet.
-fn pass_words(
-    alloc: Global,
-    emission: u32,
-    bytes: &[u8],
-    outcome: &PassResult,
-) -> Result<String, AllocError>
-    ensures { IfOk result (λ words. string_bytes words ≡
-        words_text (spec.pass_words emission bytes.now outcome.now)) }
-{
-    match outcome {
-        PassResult::Turned(turn) => turned_words(alloc, emission, bytes, turn),
-        PassResult::Arrived(arrival) => arrived_words(alloc, arrival),
-        PassResult::Full => String::from_str(alloc, "refused full"),
     }
 }
 
@@ -86,8 +73,14 @@ pub fn print_pass(
         (step_line step (spec.pass_words emission bytes.now outcome.now))
         result }
 {
-    let words = allocated(pass_words(*to.allocator(), emission, bytes, outcome))?;
-    print_line(to, step, words.as_bytes())
+    match outcome {
+        PassResult::Turned(turn) => print_turned(to, step, emission, bytes, turn),
+        PassResult::Arrived(arrival) => {
+            let words = allocated(arrived_words(*to.allocator(), arrival))?;
+            print_line(to, step, words.as_bytes())
+        }
+        PassResult::Full => print_line(to, step, b"refused full"),
+    }
 }
 
 /// Appends a line for each handled hop, the first of which is the packet's current hop, and its
@@ -101,17 +94,15 @@ fn print_hops(
     verdicts: &[Verdict],
 ) -> Result<(), OutOfMemory>
     requires { All (IsTellable topo.now packet.now) verdicts.now }
-    ensures { Prints to.old.items to.new.items
-        (spec.hop_lines topo.now step packet.now notes.now 0 verdicts.now)
-        result }
+    ensures { OnOk result (to.new.items ≡ to.old.items
+        ++ spec.hop_lines topo.now step packet.now notes.now 0 verdicts.now) }
 {
     let first = usize::from(packet.current());
-    let mut lines = Vec::new(*to.allocator());
     for (i, verdict) in verdicts.iter().enumerate() {
-        print_hop(&mut lines, step, topo, packet, first + i, verdict)?;
-        append(&mut lines, notes.behind(i))?;
+        print_hop(to, step, topo, packet, first + i, verdict)?;
+        append(to, notes.behind(i))?;
     }
-    append(to, &lines)
+    Ok(())
 }
 
 /// Appends the line of a destination.
@@ -146,9 +137,8 @@ fn print_verdicts(
 ) -> Result<(), OutOfMemory>
     requires packet { 0 < length verdicts.now → fault is_first_byte came.now ≡ None }
     requires verdicts { All (IsTellable topo.now (parse came.now)) verdicts.now }
-    ensures { Prints to.old.items to.new.items
-        (spec.verdict_lines topo.now step (parse came.now) notes.now outcome.now verdicts.now)
-        result }
+    ensures { OnOk result (to.new.items ≡ to.old.items
+        ++ spec.verdict_lines topo.now step (parse came.now) notes.now outcome.now verdicts.now) }
 {
     if verdicts.is_empty() {
         return Ok(());
@@ -178,7 +168,10 @@ pub fn print_passed(
         (spec.passed_text topo.now step came.now emitted.now notes.now passed.now)
         result }
 {
-    let mut lines = Vec::new(*to.allocator());
+    let room = SPARE
+        .saturating_add(emitted.len())
+        .saturating_add(emitted.len());
+    let mut lines = allocated(Vec::with_capacity(*to.allocator(), room))?;
     print_pass(&mut lines, step, &passed.result, passed.emission, emitted)?;
     print_verdicts(
         &mut lines,

@@ -1,6 +1,6 @@
 //! The words of verdicts, and their lines.
 
-ghost use Rattle.std.specs.Prelude.{◌≡◌, ◌∷◌, decimal, IfOk, IsTrue};
+ghost use Rattle.std.specs.Prelude.{◌≡◌, ◌∷◌, ◌++◌, codes, decimal, IfOk, IsTrue};
 ghost use Rattle.std.specs.String.{string_bytes};
 ghost use Rattle.hex.specs.Hex.{encode_lower};
 ghost use Rattle.epic_topo.specs.Network.{has};
@@ -16,6 +16,7 @@ use epic_fields::{link, sigma};
 use epic_num::{Collision, HopName, OutOfMemory, Part, Verdict};
 use epic_topo::Topology;
 use epic_view::PacketRef;
+use itoa::Buffer;
 use std::alloc::{AllocError, Global};
 
 /// What is proved of an acceptance.
@@ -120,6 +121,18 @@ pub fn print_verdict(
     }
 }
 
+/// The words before the verdict on a hop, with room for those of most verdicts.
+fn hop_words(alloc: Global, hop: usize) -> Result<Vec<u8>, OutOfMemory>
+    ensures { IfOk result (λ words. words.items ≡ codes "hop " ++ (decimal hop ++ codes " ")) }
+{
+    let mut buffer = Buffer::new();
+    let mut words = allocated(Vec::with_capacity(alloc, 64))?;
+    append(&mut words, b"hop ")?;
+    append(&mut words, buffer.format(hop).as_bytes())?;
+    append(&mut words, b" ")?;
+    Ok(words)
+}
+
 /// Appends the line of a hop that a router handled, by its index in the packet, from 0. `packet` is as it came in. On an
 /// error `to` is as it was.
 #[tactic(auto, using(crate::proofs::VerdictLemmas::hop_front))]
@@ -136,7 +149,7 @@ pub fn print_hop(
         (hop_line topo.now step packet.now hop verdict.now)
         result }
 {
-    let mut words = allocated(format!(in *to.allocator(); "hop {hop} "))?.into_bytes();
+    let mut words = hop_words(*to.allocator(), hop)?;
     print_verdict(&mut words, topo, packet, verdict)?;
     print_line(to, step, &words)
 }
