@@ -27,10 +27,11 @@ use Rattle.epic_ledger.specs.Facts.{issues_in, packet_at}
 use Rattle.epic_ledger.specs.History.{Emission, History}
 use Rattle.epic_ledger.specs.Lawful.{IsEmission}
 use Rattle.epic_ledger.proofs.Growing.{emission_at-suc, spelled_in}
+use Rattle.epic_text.specs.RunScript.{HolderFits}
 use Rattle.epic_record.specs.declared.item.Item.{Item}
 use Rattle.epic_record.specs.declared.item.Item.TheVariants as items
 use Rattle.epic_record.specs.LedgerFile.{are_lasts, as_emission, due_as, goes_on, history_in, holder_as, is_event_placed, is_newest, is_packet, is_placed}
-use Rattle.epic_reread.specs.LedgerFitting.{EventFits, HolderFits, ItemFits, PlaceFits, PlacedItemsCanBeWritten, PlacedLedgersAreReadBack}
+use Rattle.epic_reread.specs.LedgerFitting.{EventFits, ItemFits, PlaceFits, PlacedItemsCanBeWritten, PlacedLedgersAreReadBack}
 use Rattle.epic_reread.specs.LedgerRereading.{AreLastIssues, ArePlaced, CanBeWritten, IsNamedEvent, IsNamedHolder, IsNamedPlace}
 use Rattle.epic_reread.proofs.LedgerFiles.{ledgers_read}
 

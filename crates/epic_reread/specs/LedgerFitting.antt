@@ -1,8 +1,6 @@
 -- A ledger file whose items fit their types, and may stand where they do in a topology, is read back.
-use Rattle.std.specs.Prelude.{◌≡◌, ◌<◌, ◌≤◌, ◌^◌, List, [], length, IsTrue, Ok, ⊤}
+use Rattle.std.specs.Prelude.{◌≡◌, ◌<◌, ◌≤◌, ◌^◌, List, [], length, IsTrue, Ok}
 use Rattle.std.specs.List.{All}
-use Rattle.epic_num.specs.declared.key_name.Holder.{Holder}
-use Rattle.epic_num.specs.declared.key_name.Holder.TheVariants as holder
 use Rattle.epic_num.specs.declared.passed.Place.{Place}
 use Rattle.epic_num.specs.declared.passed.Place.TheVariants as place
 use Rattle.epic_num.specs.Messages.{IsHost}
@@ -13,6 +11,7 @@ use Rattle.epic_ledger.specs.declared.event.Event.{Event}
 use Rattle.epic_ledger.specs.declared.event.Event.TheVariants as event
 use Rattle.epic_ledger.specs.History.{History}
 use Rattle.epic_ledger.specs.Lawful.{IsEmission}
+use Rattle.epic_text.specs.RunScript.{HolderFits}
 use Rattle.epic_record.specs.declared.item.Item.{Item}
 use Rattle.epic_record.specs.declared.item.Item.TheVariants as items
 use Rattle.epic_record.specs.LedgerFile.{is_placed, ledger_file, most_ledger}
@@ -21,10 +20,6 @@ use Rattle.epic_reread.specs.Fitting.{HopFits}
 use Rattle.epic_reread.specs.LedgerRereading.{ArePlaced, CanBeWritten}
 
 -- ---- the parts of an item fit their types
-
-abbrev pub HolderFits : Holder → Type 0
-HolderFits (holder.As a) = ⊤
-HolderFits (holder.Host h) = IsHost h
 
 unfoldable pub EventFits : Event → Type 0
 EventFits (event.Issue step number name parent) =

@@ -6,6 +6,7 @@ mod Happening
 mod Lines
 mod Placing
 mod Running
+mod ScriptNames
 mod Sending
 mod SpelledBytes
 mod Stepping

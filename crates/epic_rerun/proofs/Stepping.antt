@@ -59,12 +59,13 @@ use Rattle.epic_model.specs.Steps.{admission, as_of, carrying, emitted_by, found
 use Rattle.epic_model.specs.Traces.{Stepped, answered, recorded, refused}
 use Rattle.epic_model.specs.World.{Fits, IsWorld}
 use Rattle.epic_model.proofs.Stepping.{later}
+use Rattle.epic_text.specs.RunScript.{HolderFits}
 use Rattle.epic_record.specs.declared.item.Item.{Item}
 use Rattle.epic_record.specs.LedgerFile.{holder_as, is_event_placed}
 use Rattle.epic_record.specs.Passing.{new_items, pass_items}
 use Rattle.epic_record.specs.VerdictLines.{acceptances, verdict_text}
 use Rattle.epic_reread.specs.Fitting.{HeldVerdictsFit, HopFits, OtherHopsAreThere, VerdictsCanBeTold}
-use Rattle.epic_reread.specs.LedgerFitting.{EventFits, HolderFits}
+use Rattle.epic_reread.specs.LedgerFitting.{EventFits}
 use Rattle.epic_rerun.specs.Ledgers.{passage_items, passage_verdicts, passages_items}
 use Rattle.epic_rerun.specs.Rerun.{NamesFit}
 use Rattle.epic_rerun.proofs.Carrying.{EndFits, all_carried, end_fits, pass_told, passage, passages_are, verdicts_of}

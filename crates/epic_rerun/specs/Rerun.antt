@@ -1,5 +1,5 @@
 -- The judge says yes to what a run writes.
-use Rattle.std.specs.Prelude.{◌≡◌, ◌+◌, ◌<◌, ◌≤◌, ◌^◌, List, [], flat_map, length, Ok, ⊤}
+use Rattle.std.specs.Prelude.{◌≡◌, ℕ, ◌+◌, ◌<◌, ◌≤◌, ◌^◌, List, [], flat_map, length, Ok, ⊤}
 use Rattle.std.specs.List.{All}
 use Rattle.epic_num.specs.declared.command.Command.{Command}
 use Rattle.epic_num.specs.declared.command.Command.TheVariants as command
@@ -9,6 +9,8 @@ use Rattle.epic_topo.specs.Lawful.{IsTopology}
 use Rattle.epic_topo.specs.Network.{Network}
 use Rattle.epic_model.specs.State.{start}
 use Rattle.epic_model.specs.World.{Fits, most_steps}
+use Rattle.epic_text.specs.RunScript.{HolderFits, run_rule}
+use Rattle.epic_text.specs.Script.{commands_of}
 use Rattle.epic_record.specs.LedgerFile.{history_in, most_ledger}
 use Rattle.epic_record.specs.LedgerText.{ledger_text}
 use Rattle.epic_record.specs.VerdictFile.{most_verdicts}
@@ -16,7 +18,7 @@ use Rattle.epic_record.specs.VerdictLines.{acceptances, verdict_text}
 use Rattle.epic_judging.specs.declared.judged.Judged.TheVariants.{Yes}
 use Rattle.epic_judging.specs.Judgment.{IsJudgment, accepted_after}
 use Rattle.epic_reread.specs.JudgedYes.{AreGivenOf}
-use Rattle.epic_reread.specs.LedgerFitting.{HolderFits, ItemFits}
+use Rattle.epic_reread.specs.LedgerFitting.{ItemFits}
 use Rattle.epic_reread.specs.LedgerRereading.{ArePlaced}
 use Rattle.epic_world.specs.Run.{Done, run, state_after}
 use Rattle.epic_rerun.specs.Ledgers.{items_told, verdicts_told}
@@ -38,6 +40,10 @@ NamesFit (command.Turn a iface bytes) = ⊤
 NamesFit (command.Pass emission) = ⊤
 NamesFit (command.Carry emission) = ⊤
 NamesFit (command.Roll a) = ⊤
+
+-- so it is with each command that a script spells
+abbrev pub ScriptNamesFit : Type 0
+ScriptNamesFit = (text : List ℕ) (commands : List Command) → commands_of run_rule text ≡ Ok commands → All NamesFit commands
 
 -- a run that a world makes
 pub record IsRun (t : Network) (commands : List Command) : Type 0 where

@@ -1,7 +1,7 @@
 //! What the types of a command's parts say of them.
 ghost use Rattle.std.specs.Prelude.{◌^◌, ◌<◌};
 ghost use Rattle.epic_num.specs.Messages.{IsHost};
-ghost use Rattle.epic_reread.specs.LedgerFitting.{HolderFits};
+ghost use Rattle.epic_text.specs.RunScript.{HolderFits};
 ghost use Rattle.epic_rerun.specs.Rerun.{NamesFit};
 
 use epic_num::{Command, Holder, HostId};

@@ -5,4 +5,4 @@ mod commands;
 mod laws;
 
 pub use commands::names_fit;
-pub use laws::{runs_are_judged_true, runs_are_told};
+pub use laws::{runs_are_judged_true, runs_are_told, script_names_fit};

@@ -1,7 +1,7 @@
 -- What the words of a run's script spell fits the types of commands.
 use Rattle.std.proofs.Common.{◌≡◌, ℕ, ◌+◌, ◌<◌, ◌≤◌, ◌^◌, Bool, true, false, ltb, cond, List, [], ◌∷◌, ◌++◌, Option, Some, None, Result, Ok, Err, refl, subst, arith}
-use Rattle.std.specs.Prelude.{codes, bytes_eq}
-use Rattle.std.specs.List.{All, list_all}
+use Rattle.std.specs.Prelude.{codes, bytes_eq, option_map}
+use Rattle.std.specs.List.{All, list_all, list_any}
 use Rattle.std.specs.Result.{result_ok}
 use Rattle.std.proofs.lemmas.List.Elements.{All-cons, All-nil, All-head, All-tail, All-from_get_or}
 use Rattle.arrayvec.specs.ArrayVec.{ArrayVec}
@@ -13,6 +13,7 @@ use Rattle.epic_num.specs.declared.command.Command.TheVariants as command
 use Rattle.epic_num.specs.declared.hop.Level.{Level}
 use Rattle.epic_num.specs.declared.hop.Level.TheVariants.{L0, L1, L2, L3}
 use Rattle.epic_num.specs.declared.key_name.Holder.{Holder}
+use Rattle.epic_num.specs.declared.key_name.Holder.TheVariants as holder
 use Rattle.epic_num.specs.declared.moment.TheConstants.{MAX_MOMENT}
 use Rattle.epic_num.specs.declared.name.AsId.{AsId}
 use Rattle.epic_num.specs.declared.name.HostId.{HostId}
@@ -25,7 +26,7 @@ use Rattle.epic_text.specs.declared.script.ScriptKind.{ScriptKind}
 use Rattle.epic_text.specs.declared.script.ScriptKind.TheVariants.{NotText, TooMany}
 use Rattle.epic_text.specs.declared.script.TheConstants.{MAX_COMMANDS}
 use Rattle.epic_text.specs.Lines.{is_text_byte, lines, words}
-use Rattle.epic_text.specs.RunScript.{IsSpelled, CommandsAreSpelled, run_rule, on_word, at_of, originate_of, extend_of, fetch_of, paths_of, send_of, turn_of, arrive_of, pass_of, carry_of, reveal_of, roll_of, as_named, bytes_of, level_named, segments_of, holder_named, most8, most16, most32, most64}
+use Rattle.epic_text.specs.RunScript.{HolderFits, IsSpelled, is_comma, CommandsAreSpelled, run_rule, on_word, at_of, originate_of, extend_of, fetch_of, paths_of, send_of, turn_of, arrive_of, pass_of, carry_of, reveal_of, roll_of, as_named, bytes_of, level_named, segments_of, holder_named, most8, most16, most32, most64}
 use Rattle.epic_text.specs.Script.{Fault, line_command, words_command, some_command, is_comment, at_line, numbered, commands_after, commands_of, with_front}
 use Rattle.epic_text.proofs.Numbers.{number_most}
 
@@ -130,15 +131,17 @@ extend_spelled (parent ∷ []) c h = absurd (cc)
 extend_spelled (parent ∷ out ∷ []) c h = absurd (cc)
 extend_spelled (parent ∷ out ∷ exp ∷ next ∷ more) c h = absurd (cc)
 
-fetch_by : (s o : Option AsId) (e : Option ℕ) (c : Command)
+fetch_by : (s o : Option AsId) (e : Option ℕ) (c : Command) → Gives e (λ n. n ≤ most64)
     → on_word 2 s (λ s. on_word 3 o (λ o. on_word 4 e (λ e. Ok (command.Fetch s o e)))) ≡ Ok c → IsSpelled c
-fetch_by (Some s) (Some o) (Some e) c h = same_command (command.Fetch s o e) c h tt
-fetch_by None o e c h = absurd (cc)
-fetch_by (Some s) None e c h = absurd (cc)
-fetch_by (Some s) (Some o) None c h = absurd (cc)
+fetch_by (Some s) (Some o) (Some e) c epoch h =
+    let fits = epoch e refl in
+    same_command (command.Fetch s o e) c h (omega (arith, fits))
+fetch_by None o e c epoch h = absurd (cc)
+fetch_by (Some s) None e c epoch h = absurd (cc)
+fetch_by (Some s) (Some o) None c epoch h = absurd (cc)
 
 fetch_spelled : (arguments : List (List ℕ)) (c : Command) → fetch_of arguments ≡ Ok c → IsSpelled c
-fetch_spelled (source ∷ of ∷ epoch ∷ []) c h = fetch_by (as_named source) (as_named of) (number_within most64 epoch) c h
+fetch_spelled (source ∷ of ∷ epoch ∷ []) c h = fetch_by (as_named source) (as_named of) (number_within most64 epoch) c (number_gives most64 epoch) h
 fetch_spelled [] c h = absurd (cc)
 fetch_spelled (source ∷ []) c h = absurd (cc)
 fetch_spelled (source ∷ of ∷ []) c h = absurd (cc)
@@ -191,14 +194,14 @@ turn_spelled (asn ∷ []) c h = absurd (cc)
 turn_spelled (asn ∷ iface ∷ []) c h = absurd (cc)
 turn_spelled (asn ∷ iface ∷ bytes ∷ next ∷ more) c h = absurd (cc)
 
-arrive_by : (o : Option HostId) (b : Option (List ℕ)) (c : Command) → Gives b IsBytes
+arrive_by : (o : Option HostId) (b : Option (List ℕ)) (c : Command) → Gives o IsHost → Gives b IsBytes
     → on_word 2 o (λ o. on_word 3 b (λ b. Ok (command.Arrive o b))) ≡ Ok c → IsSpelled c
-arrive_by (Some o) (Some b) c bytes h = same_command (command.Arrive o b) c h (bytes b refl)
-arrive_by None b c bytes h = absurd (cc)
-arrive_by (Some o) None c bytes h = absurd (cc)
+arrive_by (Some o) (Some b) c host bytes h = same_command (command.Arrive o b) c h (host o refl, bytes b refl)
+arrive_by None b c host bytes h = absurd (cc)
+arrive_by (Some o) None c host bytes h = absurd (cc)
 
 arrive_spelled : (arguments : List (List ℕ)) (c : Command) → arrive_of arguments ≡ Ok c → IsSpelled c
-arrive_spelled (host ∷ bytes ∷ []) c h = arrive_by (host_of host) (bytes_of bytes) c (bytes_give bytes) h
+arrive_spelled (host ∷ bytes ∷ []) c h = arrive_by (host_of host) (bytes_of bytes) c (host_gives host) (bytes_give bytes) h
 arrive_spelled [] c h = absurd (cc)
 arrive_spelled (host ∷ []) c h = absurd (cc)
 arrive_spelled (host ∷ bytes ∷ next ∷ more) c h = absurd (cc)
@@ -218,8 +221,23 @@ carry_spelled (emission ∷ []) c h = one_by (number_within most32 emission) (λ
 carry_spelled [] c h = absurd (cc)
 carry_spelled (emission ∷ next ∷ more) c h = absurd (cc)
 
+either_holder : (b : Bool) (h : Option HostId) (a : Option AsId) → Gives h IsHost
+    → Gives (cond b (option_map (λ h. holder.Host h) h) (option_map (λ a. holder.As a) a)) HolderFits
+either_holder true (Some h) a host who is = let same : holder.Host h ≡ who = cc in subst HolderFits same (host h refl)
+either_holder true None a host who is = absurd (cc)
+either_holder false h (Some a) host who is = let same : holder.As a ≡ who = cc in subst HolderFits same tt
+either_holder false h None host who is = absurd (cc)
+
+holder_gives : (text : List ℕ) → Gives (holder_named text) HolderFits
+unfolding holder_named
+holder_gives text = either_holder (list_any is_comma text) (host_of text) (as_named text) (host_gives text)
+
+reveal_by : (o : Option Holder) (c : Command) → Gives o HolderFits → on_word 2 o (λ o. Ok (command.Reveal o)) ≡ Ok c → IsSpelled c
+reveal_by (Some o) c fits h = same_command (command.Reveal o) c h (fits o refl)
+reveal_by None c fits h = absurd (cc)
+
 reveal_spelled : (arguments : List (List ℕ)) (c : Command) → reveal_of arguments ≡ Ok c → IsSpelled c
-reveal_spelled (name ∷ []) c h = one_by (holder_named name) (λ o. command.Reveal o) c (λ _. tt) h
+reveal_spelled (name ∷ []) c h = reveal_by (holder_named name) c (holder_gives name) h
 reveal_spelled [] c h = absurd (cc)
 reveal_spelled (name ∷ next ∷ more) c h = absurd (cc)
 

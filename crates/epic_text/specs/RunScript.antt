@@ -188,21 +188,26 @@ IsWord word told (Err words_error.OutOfMemory) = ⊤
 
 -- ---- what scripts hold
 
+-- the host of a holder that is one fits its types
+abbrev pub HolderFits : Holder → Type 0
+HolderFits (holder.As a) = ⊤
+HolderFits (holder.Host h) = IsHost h
+
 -- The parts of a command fit their types, its bytes are bytes, and its packet is of a level and
 -- version that exist.
 abbrev pub IsSpelled : Command → Type 0
 IsSpelled (command.At moment) = moment ≤ MAX_MOMENT
 IsSpelled (command.Originate a out exp) = (out < 2 ^ 16) × (exp < 2 ^ 8)
 IsSpelled (command.Extend parent out exp) = (out < 2 ^ 16) × (exp < 2 ^ 8)
-IsSpelled (command.Fetch source owner epoch) = ⊤
+IsSpelled (command.Fetch source owner epoch) = epoch < 2 ^ 64
 IsSpelled (command.Paths from to) = ⊤
 IsSpelled (command.Send version level src dst segments payload) =
     (is_first_byte (first_byte version level) ≡ true) × (IsHost src × (IsHost dst × IsBytes payload))
 IsSpelled (command.Turn a iface bytes) = IsBytes bytes
-IsSpelled (command.Arrive host bytes) = IsBytes bytes
+IsSpelled (command.Arrive host bytes) = IsHost host × IsBytes bytes
 IsSpelled (command.Pass emission) = ⊤
 IsSpelled (command.Carry emission) = ⊤
-IsSpelled (command.Reveal holder) = ⊤
+IsSpelled (command.Reveal holder) = HolderFits holder
 IsSpelled (command.Roll a) = ⊤
 
 -- each command that a script spells is one
