@@ -1,9 +1,10 @@
 //! Carries as calls of a world of two ASes.
+ghost use Rattle.std.specs.Prelude.{◌≡◌};
 
 use super::*;
 use arrayvec::ArrayVec;
 use epic_num::{
-    Answer, Arrival, AsId, Bytes, Command, HostId, Level, PassResult, PassedList, Turn, Verdict,
+    Arrival, AsId, Bytes, Command, HostId, Level, PassResult, Passed, PassedList, Turn, Verdict,
 };
 use epic_topo::read_topology;
 use std::alloc::Global;
@@ -23,43 +24,57 @@ const CHILD: AsId = AsId(0x0001_0000_0000_0002);
 
 const NOW: u64 = 1_700_000_000_000_000;
 
-/// One step, in a world of few.
-fn step(
-    rt: &impl Abort,
-    alloc: Global,
-    world: &mut World,
-    command: &Command,
-) -> Result<Answer, Fail> {
-    assert!(rt; world.steps() < 100);
-    assert!(rt; is_possible(command));
-    Ok(world.step(alloc, command)?)
+/// A world in which nothing has happened.
+fn start(rt: &impl Abort, alloc: Global) -> Result<World, Fail> {
+    assert!(rt; TEXT.len() <= 1_048_576);
+    Ok(World::new(alloc, read_topology(alloc, TEXT)?))
 }
 
-/// A world in which the core AS and its child issued a segment, and the child knows the core AS's key for a day.
-fn world(rt: &impl Abort, alloc: Global) -> Result<World, Fail> {
-    assert!(rt; TEXT.len() <= 1_048_576);
-    let mut world = World::new(alloc, read_topology(alloc, TEXT)?);
-    for command in [
-        Command::At { moment: NOW },
-        Command::Originate {
-            a: CORE,
-            out: 2,
-            exp: 63,
-        },
-        Command::Extend {
-            parent: 1,
-            out: 0,
-            exp: 63,
-        },
-        Command::Fetch {
-            source: CHILD,
-            owner: CORE,
-            epoch: 19_675,
-        },
-    ] {
-        step(rt, alloc, &mut world, &command)?;
-    }
-    Ok(world)
+/// One step, in a world of few.
+fn step(rt: &impl Abort, alloc: Global, world: &mut World, command: &Command) -> Result<(), Fail>
+    ensures { world.new.network ≡ world.old.network }
+{
+    assert!(rt; world.steps() < 100);
+    assert!(rt; is_possible(command));
+    world.step(alloc, command)?;
+    Ok(())
+}
+
+/// The core AS issues the first hop of a segment.
+fn originate(rt: &impl Abort, alloc: Global, world: &mut World) -> Result<(), Fail>
+    ensures { world.new.network ≡ world.old.network }
+{
+    step(rt, alloc, world, &Command::At { moment: NOW })?;
+    let command = Command::Originate {
+        a: CORE,
+        out: 2,
+        exp: 63,
+    };
+    step(rt, alloc, world, &command)
+}
+
+/// Its child issues the second and last.
+fn extend(rt: &impl Abort, alloc: Global, world: &mut World) -> Result<(), Fail>
+    ensures { world.new.network ≡ world.old.network }
+{
+    let command = Command::Extend {
+        parent: 1,
+        out: 0,
+        exp: 63,
+    };
+    step(rt, alloc, world, &command)
+}
+
+/// The child gets the core AS's key for a day.
+fn fetch(rt: &impl Abort, alloc: Global, world: &mut World) -> Result<(), Fail>
+    ensures { world.new.network ≡ world.old.network }
+{
+    let command = Command::Fetch {
+        source: CHILD,
+        owner: CORE,
+        epoch: 19_675,
+    };
+    step(rt, alloc, world, &command)
 }
 
 /// A packet of level 3 from the child to the core AS, over the segment.
@@ -79,54 +94,73 @@ fn packet(alloc: Global) -> Command {
     }
 }
 
-/// An emission is carried, in a world of few steps.
-fn carried(
-    rt: &impl Abort,
-    alloc: Global,
-    world: &mut World,
-    number: u32,
-) -> Result<PassedList, Fail> {
-    assert!(rt; world.steps() < 100);
-    assert!(rt; world.ledger().emission(number).is_some());
-    Ok(world.carry(alloc, number)?)
+/// The child sends that packet over the segment.
+fn send(rt: &impl Abort, alloc: Global, world: &mut World) -> Result<(), Fail>
+    ensures { world.new.network ≡ world.old.network }
+{
+    originate(rt, alloc, world)?;
+    extend(rt, alloc, world)?;
+    fetch(rt, alloc, world)?;
+    step(rt, alloc, world, &packet(alloc))
 }
 
-/// The results and verdicts of passes.
-fn told(passes: &PassedList, alloc: Global) -> Result<String, Fail> {
-    let mut text = String::new(alloc);
-    for pass in passes.as_slice() {
-        text.push_str(match pass.result {
-            PassResult::Turned(Turn::Forward { .. }) => "forward",
-            PassResult::Turned(Turn::Deliver { .. }) => "deliver",
-            PassResult::Turned(Turn::Refused { .. }) => "refused",
-            PassResult::Arrived(Arrival::Accepted) => "accepted",
-            PassResult::Arrived(_) => "arrived",
-            PassResult::Full => "full",
-        })?;
-        for verdict in pass.verdicts.as_slice() {
-            text.push_str(match verdict {
-                Verdict::Proved { .. } => " proved",
-                _ => " other",
-            })?;
-        }
-        text.push(' ')?;
+/// The first emission is carried, in a world of few steps.
+fn carried(rt: &impl Abort, alloc: Global, world: &mut World) -> Result<PassedList, Fail>
+    ensures network { world.new.network ≡ world.old.network }
+{
+    assert!(rt; world.steps() < 100);
+    assert!(rt; world.ledger().emission(1).is_some());
+    Ok(world.carry(alloc, 1)?)
+}
+
+/// What became of a packet at a place.
+fn told(of: &PassResult) -> &'static str {
+    match of {
+        PassResult::Turned(Turn::Forward { .. }) => "forward",
+        PassResult::Turned(Turn::Deliver { .. }) => "deliver",
+        PassResult::Turned(Turn::Refused { .. }) => "refused",
+        PassResult::Arrived(Arrival::Accepted) => "accepted",
+        PassResult::Arrived(_) => "arrived",
+        PassResult::Full => "full",
     }
-    Ok(text)
+}
+
+/// Whether a packet's result at a place has this word. All verdicts of it say proved, and there is one unless it was refused.
+fn is_told(pass: &Passed, word: &str) -> bool {
+    let verdicts = pass.verdicts.as_slice();
+    told(&pass.result) == word
+        && verdicts.is_empty() == (word == "refused")
+        && verdicts
+            .iter()
+            .all(|verdict| matches!(verdict, Verdict::Proved { .. }))
+}
+
+/// A carry tells these results and no others.
+fn check(rt: &impl Abort, passes: &PassedList, words: &[&str]) {
+    let passes = passes.as_slice();
+    assert_eq!(rt; passes.len(), words.len());
+    for (pass, word) in passes.iter().zip(words) {
+        assert!(rt; is_told(pass, word));
+    }
 }
 
 #[test]
-fn carries_a_packet_to_its_destination_once(rt: HostRuntime) -> Result<(), Fail> {
-    let alloc = rt.alloc();
-    let mut world = world(&rt, alloc)?;
-    let sent = packet(alloc);
-    step(&rt, alloc, &mut world, &sent)?;
-    let first = carried(&rt, alloc, &mut world, 1)?;
-    assert_eq!(rt;
-        told(&first, alloc)?.as_str(),
-        "forward proved deliver proved accepted proved "
-    );
-    let again = carried(&rt, alloc, &mut world, 1)?;
-    assert_eq!(rt; told(&again, alloc)?.as_str(), "refused ");
+fn carries_a_packet_to_its_destination(rt: HostRuntime) -> Result<(), Fail> {
+    let mut world = start(&rt, rt.alloc())?;
+    send(&rt, rt.alloc(), &mut world)?;
+    let passes = carried(&rt, rt.alloc(), &mut world)?;
+    check(&rt, &passes, &["forward", "deliver", "accepted"]);
+    assert_eq!(rt; world.steps(), 6);
+    Ok(())
+}
+
+#[test]
+fn carries_no_packet_twice(rt: HostRuntime) -> Result<(), Fail> {
+    let mut world = start(&rt, rt.alloc())?;
+    send(&rt, rt.alloc(), &mut world)?;
+    carried(&rt, rt.alloc(), &mut world)?;
+    let again = carried(&rt, rt.alloc(), &mut world)?;
+    check(&rt, &again, &["refused"]);
     assert_eq!(rt; world.steps(), 7);
     Ok(())
 }
