@@ -26,29 +26,3 @@ broken_is f x p j r e =
     by true o = refl
     by false None = refl
     by false (Some w) = refl
-
--- ---- one of the issues
-
-any_or : {X : Type 0} (q : X → Bool) (xs : List X) (n : ℕ) → (option_map_or q (slice_get xs n) false || list_any q xs) ≡ list_any q xs
-any_or q [] zero = refl
-any_or q [] (suc n) = refl
-any_or q (x ∷ xs) zero = twice (q x)
-  where
-    twice : (b : Bool) → (b || (b || list_any q xs)) ≡ (b || list_any q xs)
-    twice true = refl
-    twice false = refl
-any_or q (x ∷ xs) (suc n) = by (option_map_or q (slice_get xs n) false) (q x) (any_or q xs n)
-  where
-    by : (a b : Bool) → (a || list_any q xs) ≡ list_any q xs → (a || (b || list_any q xs)) ≡ (b || list_any q xs)
-    by true true rest = refl
-    by true false rest = rest
-    by false b rest = refl
-
-pub child_there : (issues : List Issue) (y z : HopName) (number : ℕ)
-    → (option_map_or (is_child issues y z) (issue_at issues number) false || list_any (is_child issues y z) issues) ≡ list_any (is_child issues y z) issues
-unfolding issue_at
-child_there issues y z number = by (number == 0)
-  where
-    by : (b : Bool) → (option_map_or (is_child issues y z) (if b then None else slice_get issues (number - 1)) false || list_any (is_child issues y z) issues) ≡ list_any (is_child issues y z) issues
-    by true = refl
-    by false = any_or (is_child issues y z) issues (number - 1)

@@ -4,8 +4,7 @@ pub mod Breaks
 pub mod ByPieces
 pub mod ClaimLaws
 pub mod DestLines
-pub mod DestWalking
-pub mod FirstSent
+pub mod DestMade
 pub mod HopLines
 pub mod Known
 pub mod Named
@@ -13,5 +12,3 @@ pub mod NextLine
 pub mod Placed
 pub mod SentAs
 pub mod SoundLaws
-pub mod Sources
-pub mod Walking

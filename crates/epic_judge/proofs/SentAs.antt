@@ -28,20 +28,11 @@ use Rattle.epic_index.specs.Events.{send_at}
 use Rattle.epic_judging.specs.Given.{only_send}
 use Rattle.epic_judge.specs.declared.dest_sent.Sending.{Sending}
 use Rattle.epic_judge.specs.Known.{AreKnown}
-use Rattle.epic_judge.specs.Sendings.{name_by, sent_by, is_exempt, is_open, open_hop, over, sent_over, IsOver, IsSending, IsSentOver}
+use Rattle.epic_judge.specs.Sendings.{name_by, is_exempt, is_open, open_hop, over, sent_over, IsOver, IsSending, IsSentOver}
 use Rattle.epic_judge.proofs.Breaks.{IsOf, issue_known}
-use Rattle.epic_judge.proofs.FirstSent.{first_fits, is_none_of, like_implies, none_fits}
-use Rattle.epic_judge.proofs.Sources.{ByPacket, decided, sending}
+use Rattle.epic_judge.proofs.DestMade.{sending}
 
 -- ---- packets that were sent so
-
-as_implies : (p : Contents) (s : Sent) → is_sent_as p s ≡ true → is_send_of p.src p.ts s ≡ true
-unfolding is_sent_as
-as_implies p s e = like_implies p s (and_parts _ _ (and_parts _ _ (and_parts _ _ e).0).0).0
-
-pub no_sent_as : (f : Facts) (p : Contents) → is_some (send_of f.sends p.src p.ts) ≡ false → sent_as f.sends p ≡ None
-unfolding send_of sent_as
-no_sent_as f p e = none_fits (is_send_of p.src p.ts) (is_sent_as p) f.sends (as_implies p) (is_none_of (send_of f.sends p.src p.ts) e)
 
 pub same_hops : (p q : Contents) → IsPacket p → IsPacket q → same_path q.route p.route ≡ true → hop_count q ≡ hop_count p
 unfolding same_path
@@ -52,47 +43,15 @@ as_hops : (p : Contents) (s : Sent) → IsPacket p → IsPacket s.packet → is_
 unfolding is_sent_as
 as_hops p s ip is e = same_hops p s.packet ip is (and_parts _ _ (and_parts _ _ e).0).1
 
-pub sending_fits : (h : History) (p : Contents) (r : ℕ × Contents) (like : Bool) (hops : ℕ) (result : Option Sending) → IsPacket p → IsPacket r.1 → hops ≡ hop_count r.1
-    → option_map sending (send_of (facts_of h).sends p.src p.ts) ≡ Some r → ByPacket (is_sent_as p) r.1 like
-    → result ≡ (if like then Some (record { emission = r.0; hops = hops; event = None }) else None) → IfSome result (λ v. IsSending h p v)
-unfolding send_of sent_as
-sending_fits h p r like hops result ip ir count first by_packet is = by (send_of (facts_of h).sends p.src p.ts) refl first
-  where
-    Goal : Option Sending → Type 0
-    Goal o = IfSome o (λ v. IsSending h p v)
-
-    answer : Bool → Option Sending
-    answer b = if b then Some (record { emission = r.0; hops = hops; event = None }) else None
-
-    passed : (s : Sent) (b : Bool) → send_of (facts_of h).sends p.src p.ts ≡ Some s → r ≡ sending s → is_sent_as p s ≡ b → like ≡ b → Goal result
-    passed s true k same e l =
-        let there : IsPacket s.packet = subst (λ (v : ℕ × Contents). IsPacket v.1) same ir in
-        let hops_are : hops ≡ hop_count s.packet = count ∙ ap (λ (v : ℕ × Contents). hop_count v.1) same in
-        subst Goal (sym (is ∙ ap answer l)) (record {
-          send = s;
-          found = first_fits (is_send_of p.src p.ts) (is_sent_as p) (facts_of h).sends s (as_implies p) k e;
-          emission_is = ap (λ (v : ℕ × Contents). v.0) same;
-          hops_is = hops_are;
-          within = hops_are ∙ as_hops p s ip there e;
-          place_is = k;
-        })
-    passed s false k same e l = subst Goal (sym (is ∙ ap answer l)) tt
-
-    by : (o : Option Sent) → send_of (facts_of h).sends p.src p.ts ≡ o → option_map sending o ≡ Some r → Goal result
-    by None k e = absurd (cc)
-    by (Some s) k e =
-        let same : r ≡ sending s = same_Some r (sending s) (sym e) in
-        passed s (is_sent_as p s) k same refl (decided (is_sent_as p) s r like same by_packet)
-
 sent_passes : (sends : List Sent) (p : Contents) (s : Sent) → sent_as sends p ≡ Some s → is_sent_as p s ≡ true
 unfolding sent_as
 sent_passes sends p s e = (found (is_sent_as p) sends s e).passes
 
 pub later_is : (h : History) (p : Contents) (n : ℕ) (r : ℕ × Contents) (hops : ℕ) → IsPacket p → IsPacket r.1 → hops ≡ hop_count r.1
-    → send_at h n ≡ sent_as (facts_of h).sends p → Some r ≡ option_map sending (send_at h n) → IsSending h p (record { emission = r.0; hops = hops; event = Some n })
+    → send_at h n ≡ sent_as (facts_of h).sends p → Some r ≡ option_map sending (send_at h n) → IsSending h p (record { emission = r.0; hops = hops; event = n })
 later_is h p n r hops ip ir count at e = by (send_at h n) refl e
   where
-    by : (o : Option Sent) → send_at h n ≡ o → Some r ≡ option_map sending o → IsSending h p (record { emission = r.0; hops = hops; event = Some n })
+    by : (o : Option Sent) → send_at h n ≡ o → Some r ≡ option_map sending o → IsSending h p (record { emission = r.0; hops = hops; event = n })
     by None k m = absurd (cc)
     by (Some s) k m =
         let same : r ≡ sending s = same_Some r (sending s) m in
@@ -137,10 +96,10 @@ some_known t f o j None known e = tt
 some_known t f None j (Some x) known e = absurd (cc)
 some_known t f (Some s) j (Some x) known e = sent_known t f.issues s j x known.issued (sym e)
 
-pub by_known : (t : Network) (h : History) (p : Contents) (event : Option ℕ) (j : ℕ) (name : Option HopName) → AreKnown t (facts_of h) → name ≡ name_by h p event j
+pub by_known : (t : Network) (h : History) (event j : ℕ) (name : Option HopName) → AreKnown t (facts_of h) → name ≡ name_by h event j
     → IfSome name (λ x. IsOf t x)
 unfolding name_by
-by_known t h p event j name known e = some_known t (facts_of h) (sent_by h p event) j name known e
+by_known t h event j name known e = some_known t (facts_of h) (send_at h event) j name known e
 
 pub at_known : (t : Network) (f : Facts) (o : Option Sent) (j : ℕ) (name : Option HopName) (x : HopName) → AreKnown t f → name ≡ option_and_then (λ s. sent_name f.issues s j) o → name ≡ Some x
     → IsOf t x
@@ -206,22 +165,22 @@ uncovered_by f p s e = by (is_exempt f p) ∙ ap (λ (o : Option Sent). option_m
     by false = map_twice hop_of (sent_hop f s) (find (is_uncovered f p s) (range_with_len 0 (hop_count s.packet)))
 
 pub found_uncovered : (h : History) (p : Contents) (v : Sending) → IsSending h p v
-    → (if is_exempt (facts_of h) p then None else option_map (open_hop (name_by h p v.event)) (find (is_open (facts_of h) p (name_by h p v.event)) (range_with_len 0 v.hops))) ≡ option_map hop_of (uncovered (facts_of h) p)
+    → (if is_exempt (facts_of h) p then None else option_map (open_hop (name_by h v.event)) (find (is_open (facts_of h) p (name_by h v.event)) (range_with_len 0 v.hops))) ≡ option_map hop_of (uncovered (facts_of h) p)
 unfolding name_by
 found_uncovered h p v is =
     let f = facts_of h in
-    let names : name_by h p v.event ≡ sent_name f.issues is.send = λ i j. option_and_then (λ s. sent_name f.issues s j) (is.place_is i) in
+    let names : name_by h v.event ≡ sent_name f.issues is.send = λ i j. option_and_then (λ s. sent_name f.issues s j) (is.place_is i) in
     (λ i. if is_exempt f p then None else option_map (open_hop (names i)) (find (is_open f p (names i)) (range_with_len 0 (is.hops_is i))))
     ∙ uncovered_by f p is.send is.found
 
 pub exempt_none : (h : History) (p : Contents) (v : Sending) → IsSending h p v → is_exempt (facts_of h) p ≡ true → None ≡ option_map hop_of (uncovered (facts_of h) p)
 exempt_none h p v is e =
-    ap (λ (b : Bool). if b then None else option_map (open_hop (name_by h p v.event)) (find (is_open (facts_of h) p (name_by h p v.event)) (range_with_len 0 v.hops))) (sym e)
+    ap (λ (b : Bool). if b then None else option_map (open_hop (name_by h v.event)) (find (is_open (facts_of h) p (name_by h v.event)) (range_with_len 0 v.hops))) (sym e)
     ∙ found_uncovered h p v is
 
 pub open_found : (h : History) (p : Contents) (v : Sending) (result : Option (ℕ × HopName)) → IsSending h p v → is_exempt (facts_of h) p ≡ false
-    → result ≡ option_map (open_hop (name_by h p v.event)) (find (is_open (facts_of h) p (name_by h p v.event)) (range_with_len 0 v.hops)) → result ≡ option_map hop_of (uncovered (facts_of h) p)
+    → result ≡ option_map (open_hop (name_by h v.event)) (find (is_open (facts_of h) p (name_by h v.event)) (range_with_len 0 v.hops)) → result ≡ option_map hop_of (uncovered (facts_of h) p)
 open_found h p v result is e found_is =
     found_is
-    ∙ (ap (λ (b : Bool). if b then None else option_map (open_hop (name_by h p v.event)) (find (is_open (facts_of h) p (name_by h p v.event)) (range_with_len 0 v.hops))) (sym e)
+    ∙ (ap (λ (b : Bool). if b then None else option_map (open_hop (name_by h v.event)) (find (is_open (facts_of h) p (name_by h v.event)) (range_with_len 0 v.hops))) (sym e)
     ∙ found_uncovered h p v is)

@@ -29,14 +29,9 @@ use Rattle.epic_judge.specs.Walks.{update_at}
 
 -- ---- what was sent
 
--- by the event of this number, or first by p's source with p's timestamp
-abbrev pub sent_by : History → Contents → Option ℕ → Option Sent
-sent_by h p None = send_of (facts_of h).sends p.src p.ts
-sent_by h p (Some number) = send_at h number
-
--- the name of its hop j
-unfoldable pub name_by : History → Contents → Option ℕ → ℕ → Option HopName
-name_by h p event j = option_and_then (λ s. sent_name (facts_of h).issues s j) (sent_by h p event)
+-- the name of hop j of the packet that was sent by the event of this number
+unfoldable pub name_by : History → ℕ → ℕ → Option HopName
+name_by h event j = option_and_then (λ s. sent_name (facts_of h).issues s j) (send_at h event)
 
 -- it is the first packet that was sent as p is
 pub record IsSending (h : History) (p : Contents) (r : Sending) : Type 0 where
@@ -45,7 +40,7 @@ pub record IsSending (h : History) (p : Contents) (r : Sending) : Type 0 where
   pub emission_is : r.emission ≡ send.emission
   pub hops_is : r.hops ≡ hop_count send.packet
   pub within : r.hops ≡ hop_count p
-  pub place_is : sent_by h p r.event ≡ Some send
+  pub place_is : send_at h r.event ≡ Some send
 
 abbrev pub IsSentAs : History → Contents → Option Sending → Type 0
 IsSentAs h p None = sent_as (facts_of h).sends p ≡ None
@@ -91,16 +86,3 @@ makes_dest_by t dst src epoch message p names =
     && is_tagged p.first
     && epoch_of t.profile p.ts == epoch
     && bytes_eq (dest_message p (map (update_at t p names) (range_with_len 0 (update_count p.first (hop_count p))))) message
-
--- hop j of a packet, whose name this is, was accepted by this AS in this epoch, and its update is made over this message
-abbrev pub gives_out_by : Network → AsId → HostId → ℕ → List ℕ → HopName → ℕ → Contents → Bool
-gives_out_by t asn src epoch message x j p =
-    same_as x.asn asn
-    && same_host p.src src
-    && is_updated p.first
-    && epoch_of t.profile p.ts == epoch
-    && bytes_eq (hop_message t x p j) message
-
--- the name of the hop that was accepted, where that is a twin of the hop
-abbrev pub twin_answer : Network → Contents → Uncovered → Pass → Option HopName
-twin_answer t p u w = if is_twin_pass t p u w then Some (pass_name w) else None

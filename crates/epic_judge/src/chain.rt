@@ -12,62 +12,6 @@ use epic_index::Index;
 use epic_num::{HopName, same_name};
 use epic_view::PacketRef;
 
-/// The issue at an index, from 0: its name, and the number of its parent.
-fn issue_at(index: &Index<'_>, at: u32) -> (HopName, u32)
-    requires { at < length (facts_of index.now.history).issues }
-    ensures { drop at (facts_of index.now.history).issues ≡ record { name = result.0; parent = result.1 } ∷ drop (at + 1) (facts_of index.now.history).issues }
-{
-    let _issues = index.issues();
-    match index.issue(at + 1) {
-        Some(issue) => issue,
-        None => unreachable!(),
-    }
-}
-
-/// Whether the issue of a number has a name.
-#[tactic(auto, unfolding(epic_num::specs::Chains::name_of))]
-fn is_named(index: &Index<'_>, number: u32, z: &HopName) -> bool
-    ensures { result ≡ verdicts.is_named z.now (name_of (facts_of index.now.history).issues number) }
-{
-    match index.issue(number) {
-        Some((name, _)) => same_name(&name, z),
-        None => false,
-    }
-}
-
-/// Whether the issue of a number is one of `y` and goes on from one of `z`.
-#[tactic(auto, unfolding(epic_audit::specs::Verdicts::is_child))]
-fn is_child(index: &Index<'_>, number: u32, y: &HopName, z: &HopName) -> bool
-    ensures { let issues = (facts_of index.now.history).issues in result ≡ option_map_or (verdicts.is_child issues y.now z.now) (issue_at issues number) false }
-{
-    match index.issue(number) {
-        Some((name, parent)) => same_name(&name, y) && is_named(index, parent, z),
-        None => false,
-    }
-}
-
-/// Whether some issue of `y` goes on from one of `z`, by a walk.
-#[tactic(auto, unfolding(epic_audit::specs::Verdicts::is_child))]
-fn walk_to_child(index: &Index<'_>, y: &HopName, z: &HopName) -> bool
-    ensures { result ≡ list_any (verdicts.is_child (facts_of index.now.history).issues y.now z.now) (facts_of index.now.history).issues }
-{
-    for at in 0..index.issues() {
-        let (name, parent) = issue_at(index, at);
-        if same_name(&name, y) && is_named(index, parent, z) {
-            return true;
-        }
-    }
-    false
-}
-
-/// Whether some issue does, of which the one of this number is looked at first.
-#[tactic(auto, using(crate::proofs::Breaking::child_there))]
-fn goes_on(index: &Index<'_>, number: u32, y: &HopName, z: &HopName) -> bool
-    ensures { result ≡ list_any (verdicts.is_child (facts_of index.now.history).issues y.now z.now) (facts_of index.now.history).issues }
-{
-    is_child(index, number, y, z) || walk_to_child(index, y, z)
-}
-
 /// The name of the parent of an issue.
 #[tactic(auto, unfolding(epic_audit::specs::Verdicts::parent_name, epic_num::specs::Chains::name_of))]
 fn parent_name(index: &Index<'_>, number: u32) -> HopName
@@ -87,7 +31,7 @@ fn broken_between(index: &Index<'_>, y: &HopName, z: &HopName) -> Option<(HopNam
     ensures { result ≡ verdicts.broken_between (facts_of index.now.history).issues y.now z.now }
 {
     let number = index.issue_of(y)?;
-    if goes_on(index, number, y, z) {
+    if index.is_child(y, z) {
         return None;
     }
     Some((*z, parent_name(index, number)))

@@ -18,8 +18,8 @@ ghost use Rattle.epic_layout.specs.Contents.{hop_count};
 ghost use Rattle.epic_keys.specs.Keys as keys;
 ghost use Rattle.epic_fields.specs.HopChecks.{hop_name};
 
+use crate::dest_sent::sent_over;
 use crate::dest_tests::{collided_with_pass, dest_forged, dest_opened, dest_proved, update_forged};
-use crate::dest_walks::sent_over;
 use crate::telling::{is_common_tag, tells_dest_forged, tells_proved, tells_update_forged};
 use epic_index::Index;
 use epic_keys::owner;

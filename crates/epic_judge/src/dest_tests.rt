@@ -16,8 +16,8 @@ ghost use Rattle.epic_judging.specs.DestTests as tests;
 ghost use Rattle.epic_judging.specs.Given as given;
 ghost use Rattle.epic_judge.specs.Known.{AreKnown};
 
+use crate::dest_made::made_dest;
 use crate::dest_sent::{sent_as, uncovered_in};
-use crate::dest_walks::{given_out, made_dest, twin_pass};
 use crate::reveals::{key_revealed_at, key_unrevealed};
 use crate::tags::one_sigma;
 use epic_cmac::cmac;
@@ -98,7 +98,7 @@ fn is_given_out(index: &Index<'_>, x: &HopName, packet: &PacketRef<'_>, hop: u8)
 {
     let message = hop_message(index.topology(), x, packet, hop);
     let epoch = index.topology().profile().epoch_of(packet.ts());
-    given_out(index, x.asn, packet.src(), epoch, &message)
+    index.given_out(x.asn, packet.src(), epoch, &message)
 }
 
 /// Whether the update is right, no router of the hop's AS gave it out, and its key has no holder that was revealed.
@@ -209,7 +209,7 @@ fn is_named_twin(
     requires { IsTrue (has index.now.network name.now.asn) }
     ensures { result ≡ verdicts.is_named left.now (verdicts.twin_pass index.now.network (facts_of index.now.history) packet.now (record { hop = hop; name = name.now })) }
 {
-    match twin_pass(index, packet, hop, name) {
+    match index.twin_pass(packet, hop, name) {
         Some(other) => same_name(&other, left),
         None => false,
     }

@@ -16,8 +16,7 @@ ghost use Rattle.epic_judge.specs.Known.{AreKnown};
 
 use crate::chain::broken_chain;
 use crate::reveals::{any_revealed_at, key_revealed_at, key_unrevealed};
-use crate::tags::{one_link, one_sigma};
-use crate::walks::{made_field, source_of, twin_sent};
+use crate::tags::{is_twin, one_link, one_sigma};
 use epic_fields::{carries_field, field_name, field_part, has_field, hop_message, hop_tag};
 use epic_index::Index;
 use epic_num::{
@@ -46,11 +45,11 @@ fn is_chained(index: &Index<'_>, x: &HopName, packet: &PacketRef<'_>, hop: u8) -
 }
 
 /// Whether the packet's source sent a packet like it over the hop.
-#[tactic(auto, using(crate::proofs::Sources::sourced), unfolding(epic_judging::specs::Given::is_sourced))]
+#[tactic(auto, using(crate::proofs::DestMade::sourced), unfolding(epic_judging::specs::Given::is_sourced))]
 fn is_sourced(index: &Index<'_>, x: &HopName, packet: &PacketRef<'_>, hop: u8) -> bool
     ensures { result ≡ given.is_sourced (facts_of index.now.history) x.now packet.now hop }
 {
-    source_of(index, x, packet, hop).is_some()
+    index.source_of(x, packet, hop).is_some()
 }
 
 /// Whether the provenance of the hop is there.
@@ -80,7 +79,7 @@ pub fn hop_proved(
     hop_ok(index, x, packet, hop)
         && is_number(issue, index.issue_of(x))
         && if is_tagged(packet.first_byte()) {
-            is_number(send, source_of(index, x, packet, hop))
+            is_number(send, index.source_of(x, packet, hop))
         } else {
             send == 0
         }
@@ -177,7 +176,7 @@ fn is_made(index: &Index<'_>, x: &HopName, packet: &PacketRef<'_>, hop: u8) -> b
 {
     let message = hop_message(index.topology(), x, packet, hop);
     let epoch = index.topology().profile().epoch_of(packet.ts());
-    made_field(index, x.asn, packet.src(), epoch, &message)
+    index.made_field(x.asn, packet.src(), epoch, &message)
 }
 
 /// Whether the message of the hop's field was never sent, and the field is right.
@@ -237,6 +236,19 @@ pub fn field_forged(
 }
 
 // ---- collisions
+
+/// The hop that the first packet has in the place of `x` that the packet's source sent with its first byte and timestamp, where
+/// it is another of the same AS and authenticator.
+#[tactic(auto, unfolding(epic_audit::specs::Verdicts::twin_sent))]
+fn twin_sent(index: &Index<'_>, x: &HopName, packet: &PacketRef<'_>, hop: u8) -> Option<HopName>
+    requires { IsTrue (has index.now.network x.now.asn) }
+    ensures { result ≡ verdicts.twin_sent index.now.network (facts_of index.now.history) x.now packet.now hop }
+{
+    match index.name_sent_like(packet, hop) {
+        Some(other) if is_twin(index.topology(), x, &other) => Some(other),
+        _ => None,
+    }
+}
 
 /// Whether a name was found, and is this.
 fn is_named(name: &HopName, found: Option<HopName>) -> bool

@@ -6,10 +6,9 @@ mod both_files;
 mod chain;
 mod dest_bytes;
 mod dest_line;
+mod dest_made;
 mod dest_sent;
 mod dest_tests;
-mod dest_walks;
-mod firsts;
 mod hop_line;
 mod hop_tests;
 mod ledger_lines;
@@ -17,7 +16,8 @@ mod progress;
 mod reveals;
 mod tags;
 mod telling;
-mod walks;
+#[cfg(test)]
+mod tests;
 
 pub use both_files::{MAX_VERDICTS, judge};
 pub use dest_line::is_true_at_dest;

@@ -6,5 +6,5 @@ use Rattle.epic_judge.proofs.dest_sent.first_open.Given as goal
 
 abbrev pub invariant-loop-hop : goal.invariant-loop-hop
 invariant-loop-hop l =
-    let test = is_open (facts_of l.index.history) l.packet (name_by l.index.history l.packet l.event) in
+    let test = is_open (facts_of l.index.history) l.packet (name_by l.index.history l.event) in
     find test (drop l.hop (range_with_len 0 l.hops)) ≡ find test (range_with_len 0 l.hops)

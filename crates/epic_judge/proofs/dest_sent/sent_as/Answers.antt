@@ -1,7 +1,10 @@
-use Rattle.std.proofs.Common.{sym, ◌∙◌}
-use Rattle.epic_ledger.specs.Facts.{facts_of}
-use Rattle.epic_judge.proofs.SentAs.{no_sent_as}
+use Rattle.std.proofs.Common.{sym, ap, ◌∙◌}
+use Rattle.std.specs.Prelude.{option_and_then}
+use Rattle.epic_index.specs.Events.{send_at}
 use Rattle.epic_judge.proofs.dest_sent.sent_as.Goals as goal
 
-pub returns-then-not-is_sent : goal.returns-then-not-is_sent
-returns-then-not-is_sent c = no_sent_as (facts_of c.args.index.now.history) c.args.packet.now (sym c.is_sent.ensures ∙ c.if-not-is_sent.true)
+pub sending_at-requires : goal.sending_at-requires
+sending_at-requires c = ap (option_and_then (send_at c.args.index.now.history)) (sym c.in-Some.is) ∙ c.sent_as.ensures
+
+pub returns-in-None : goal.returns-in-None
+returns-in-None c = sym (ap (option_and_then (send_at c.args.index.now.history)) (sym c.in-None.is) ∙ c.sent_as.ensures)
