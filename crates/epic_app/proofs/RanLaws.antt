@@ -20,6 +20,7 @@ use Rattle.epic_text.specs.Counts.{counted, total}
 use Rattle.epic_model.specs.State.{State}
 use Rattle.epic_model.specs.Steps.{next}
 use Rattle.epic_model.specs.World.{Fits}
+use Rattle.epic_rerun.specs.Rerun.{NamesFit}
 use Rattle.epic_world.specs.Run.{Done, done_by, run_from, state_after}
 use Rattle.epic_app.specs.Keeping.{kept_in}
 use Rattle.epic_app.specs.Kept.{Kept, names}
@@ -140,6 +141,7 @@ ran_none x w = record {
   acts = λ before after. nothing_done w;
   works = works_read (kept_in x.keep) w w (keeps_all w.contents) (omega arith) refl;
   fits = All-nil Fits;
+  names_fit = All-nil NamesFit;
 }
 
 -- the store was read meanwhile
@@ -159,6 +161,7 @@ ran_read x y cs u v w ran keeps later writes nothing = record {
       (does_both (acts_of x before cs) [] u v w (ran.acts before after) nothing);
   works = works_both (kept_in x.keep) u v w ran.works (works_read (kept_in x.keep) v w keeps later writes);
   fits = ran.fits;
+  names_fit = ran.names_fit;
 }
 
 module _ (x y : Records) (cs : List Command) (u v : World) (ran : Ran x y cs u v) where
@@ -232,6 +235,7 @@ module _ (x y : Records) (cs : List Command) (u v : World) (ran : Ran x y cs u v
             (then_ran.acts (before ++ steps_done) (ran.police before after)));
         works = works_both (kept_in x.keep) u v w ran.works works;
         fits = All-append Fits cs ds ran.fits then_ran.fits;
+        names_fit = All-append NamesFit cs ds ran.names_fit then_ran.names_fit;
       }
 
   -- less was done of others behind them
@@ -293,9 +297,9 @@ pub ran_one : (x y : Records) (c : Command) (u v : World) → y.world.network �
     → ((before : List Done) → IsAfter x before
     → ArePoliced x.world.network x.show.police y.police (offers_of (before ++ done_by x.world.network x.world.state c ∷ [])) y.world.state.moment)
     → ((before : List Done) → IsAfter x before → Does (step_acts (kept_in x.keep) x.show x.world.network before (done_by x.world.network x.world.state c)) u v)
-    → Works (kept_in x.keep) u v → Fits c → Ran x y (c ∷ []) u v
+    → Works (kept_in x.keep) u v → Fits c → NamesFit c → Ran x y (c ∷ []) u v
 unfolding state_after run_from all_verdicts done_by
-ran_one x y c u v network show kept state counts few alarm police done works fits = record {
+ran_one x y c u v network show kept state counts few alarm police done works fits names = record {
   network = network;
   show = show;
   keep = kept;
@@ -311,6 +315,7 @@ ran_one x y c u v network show kept state counts few alarm police done works fit
   acts = λ before after. subst (λ (acts : List Act). Does acts u v) (sym (one_act x before c)) (done before after);
   works = works;
   fits = All-cons Fits c [] fits (All-nil Fits);
+  names_fit = All-cons NamesFit c [] names (All-nil NamesFit);
 }
 
 pub stops_one : (x : Records) (c : Command) (e : PortError) (u v : World)

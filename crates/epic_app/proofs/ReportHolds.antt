@@ -34,6 +34,7 @@ use Rattle.epic_text.specs.Script.{Fault, Rule, commands_of}
 use Rattle.epic_model.specs.State.{start}
 use Rattle.epic_world.specs.Run.{run, run_from}
 use Rattle.epic_model.specs.World.{Fits, most_steps}
+use Rattle.epic_rerun.specs.Rerun.{NamesFit, RunsAreJudgedTrue, ScriptNamesFit}
 use Rattle.epic_world.specs.Sound.{RunsHold}
 use Rattle.epic_app.specs.declared.judge_file.JudgedFile.{JudgedFile}
 use Rattle.epic_app.specs.declared.judge_file.JudgedFile.TheVariants.{Ledger, Verdicts}
@@ -195,6 +196,7 @@ record ByCapture (capture : Option (List ℕ)) (kept : List Kept) (show : Showin
   are : HoldsRecords capture contents records
   leads : p ≡ run_done kept show t commands records
   fit : All Fits (records_commands records)
+  names_fit : All NamesFit (records_commands records)
   few : length records ≤ 262144
 
 capture_decides : (capture : Option (List ℕ)) (kept : List Kept) (show : Showing) (t : Network) (commands : List Command) (rest : List Reading) (old new : World) (status : ℕ)
@@ -202,13 +204,13 @@ capture_decides : (capture : Option (List ℕ)) (kept : List Kept) (show : Showi
     → ByCapture capture kept show t commands (run_by capture rest kept show t commands) old.contents
 unfolding run_by on_capture by_records run_cut records_commands
 capture_decides None kept show t commands [] old new status below end read fits =
-    record { records = []; are = refl; leads = refl; fit = All-nil Fits; few = omega arith }
+    record { records = []; are = refl; leads = refl; fit = All-nil Fits; names_fit = All-nil NamesFit; few = omega arith }
 capture_decides None kept show t commands (reading ∷ rest) old new status below end read fits = absurd read
 capture_decides (Some name) kept show t commands [] old new status below end read fits = absurd read
 capture_decides (Some name) kept show t commands (Failed front ∷ []) old new status below end read fits =
     absurd (no_end (steps_acts kept show t (run t (run_commands commands (records_in front).items))) 6 (read_line name) status (omega arith) below end)
 capture_decides (Some name) kept show t commands (Unread ∷ []) old new status below (line, is) read fits = absurd (cc)
-capture_decides (Some name) kept show t commands (Whole bytes ∷ []) old new status below end (holds, none) (fits, no_more) =
+capture_decides (Some name) kept show t commands (Whole bytes ∷ []) old new status below end (holds, none) ((fits, names), no_more) =
     by (records_in bytes).damage refl end
   where
     by : (damage : Option Damage) → (records_in bytes).damage ≡ damage → IsEnd (by_records kept show t commands (records_in bytes).items damage) status
@@ -220,11 +222,12 @@ capture_decides (Some name) kept show t commands (Whole bytes ∷ []) old new st
       are = (bytes, holds, ap (λ (damage : Option Damage). record { items = (records_in bytes).items; damage = damage }) is);
       leads = ap (by_records kept show t commands (records_in bytes).items) is;
       fit = fits;
+      names_fit = names;
       few = few_records bytes;
     }
 capture_decides (Some name) kept show t commands (reading ∷ second ∷ rest) old new status below end (read, many) fits = absurd many
 
-module _ (runs_hold : RunsHold) (spelled : CommandsAreSpelled) where
+module _ (runs_hold : RunsHold) (spelled : CommandsAreSpelled) (script_names : ScriptNamesFit) (judged_true : RunsAreJudgedTrue) where
   run_claims : (r : RunRequest) (old new : World) (first second : Reading) (rest : List Reading) (status : ℕ) → IsRead old new r.topology first → IsRead old new r.script second
       → AreRead old new (option_to_list r.capture) rest → AllByRecursion RecordsFit rest → shares_files (Run r) ≡ false → status < 2
       → IsEnd (doing (Run r) (first ∷ second ∷ rest)) status → Does (doing (Run r) (first ∷ second ∷ rest)).acts old new → RunHolds r old new status
@@ -247,6 +250,7 @@ module _ (runs_hold : RunsHold) (spelled : CommandsAreSpelled) where
       let few : length commands + 1 < most_steps
       = omega (arith, few_commands run_rule by.bytes by.commands by.are, of.few, two_each of.records, length-append by.commands (records_commands of.records)) in
       let holds = runs_hold t commands lawful fit few in
+      let names = All-append NamesFit by.commands (records_commands of.records) (script_names by.bytes by.commands by.are) of.names_fit in
       record {
         text = top.bytes;
         bytes = by.bytes;
@@ -266,6 +270,7 @@ module _ (runs_hold : RunsHold) (spelled : CommandsAreSpelled) where
         saved = saved_whole r (showing r (length by.commands)) t steps old.contents new.contents unshared did.files;
         ledger = ledger_whole r (showing r (length by.commands)) t steps old.contents new.contents unshared did.files;
         verdicts = verdicts_whole r (showing r (length by.commands)) t steps old.contents new.contents unshared did.files;
+        judged = judged_true t commands (record { topology = lawful; fit = fit; names_fit = names; few = few });
       }
 
 -- ---- generated runs
@@ -383,14 +388,14 @@ judge_holds judgments m n o old new e f status (first ∷ second ∷ third ∷ [
     judge_claims judgments m n o old new first second third status read read_too read_last below end done
 judge_holds judgments m n o old new e f status (first ∷ second ∷ third ∷ fourth ∷ more) (read, (read_too, (read_last, many))) by below = absurd many
 
-module _ (runs_hold : RunsHold) (spelled : CommandsAreSpelled) (judgments : JudgmentsAreDecided) where
+module _ (runs_hold : RunsHold) (spelled : CommandsAreSpelled) (script_names : ScriptNamesFit) (judged_true : RunsAreJudgedTrue) (judgments : JudgmentsAreDecided) where
   run_holds : (r : RunRequest) (old new : World) (e f : ErrorSink) (status : ℕ) (readings : List Reading) → AreRead old new (reads_of (Run r)) readings
       → EndsBy (doing (Run r) readings) old new e f status → (status < 2 → AllByRecursion RecordsFit (drop 2 readings)) → shares_files (Run r) ≡ false → status < 2 → RunHolds r old new status
   run_holds r old new e f status [] read by fits unshared below = absurd read
   run_holds r old new e f status (first ∷ []) (read, none) by fits unshared below = absurd none
   run_holds r old new e f status (first ∷ second ∷ rest) (read, (read_too, reads)) by fits unshared below =
       let (end, done) = decided _ old new e f status by below in
-      run_claims runs_hold spelled r old new first second rest status read read_too reads (fits below) unshared below end done
+      run_claims runs_hold spelled script_names judged_true r old new first second rest status read read_too reads (fits below) unshared below end done
 
   pub holds_under : (words : List (List ℕ)) (request : Option Request) (old new : World) (e f : ErrorSink) (status : ℕ)
       → HasFew request → EndsUnder words request old new e f status → HoldsUnder request old new status

@@ -437,7 +437,7 @@ module _ (x : Records) (t : Network) (commands : List Command) (u old : World) (
           are_read = (held_before bytes holds, tt);
           cause = subst P (sym all.whole) (finish_cause x t commands u old b y xs new all.taken last r keeps writes alarm);
           blames = finish_blames x t commands u old b y xs new all.taken last r keeps writes alarm (Some name);
-          fits = λ below. (all.taken.fits, tt);
+          fits = λ below. ((all.taken.fits, all.taken.names_fit), tt);
           later = λ q. omega (arith, reads_later q, ap (λ (counts : List ℕ → ℕ). counts q) reads);
           reads = λ q absent. ap (λ (counts : List ℕ → ℕ). counts q) reads ∙ reads_only q absent;
           works = works_both all_kept u new last (works_both all_kept u old new b.works all.taken.works) works;

@@ -8,6 +8,7 @@ use Rattle.epic_num.specs.declared.passed.Place.TheVariants.{Router, Host}
 use Rattle.epic_capture.specs.Records.{Captured}
 use Rattle.epic_feed.specs.Forms.{records_in}
 use Rattle.epic_model.specs.World.{Fits}
+use Rattle.epic_rerun.specs.Rerun.{NamesFit}
 use Rattle.epic_app.specs.Readings.{Reading, Whole, Failed, Unread}
 use Rattle.epic_words.specs.Request.{Request, Hop, Run, Gen, Judge}
 
@@ -31,9 +32,10 @@ run_commands script records = script ++ records_commands records
 unfoldable pub shown : ℕ → ℕ → ℕ
 shown script step = min script step + (step - script) / 2
 
--- of a capture that was read whole the moments and the bytes fit their types
+-- of a capture that was read whole the moments, the bytes and the hosts fit their types
 abbrev pub RecordsFit : Reading → Type 0
-RecordsFit (Whole bytes) = All Fits (records_commands (records_in bytes).items)
+RecordsFit (Whole bytes) =
+    All Fits (records_commands (records_in bytes).items) × All NamesFit (records_commands (records_in bytes).items)
 RecordsFit (Failed front) = ⊤
 RecordsFit Unread = ⊤
 

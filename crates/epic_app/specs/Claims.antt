@@ -1,15 +1,19 @@
 -- What the report of a command that was done claims, for a reader.
-use Rattle.std.specs.Prelude.{◌≡◌, ℕ, ◌<◌, ◌↔◌, List, [], length, Option, Some, None, Ok, IsTrue, ⊤}
+use Rattle.std.specs.Prelude.{◌≡◌, ℕ, ◌<◌, ◌≤◌, ◌↔◌, List, [], length, Option, Some, None, Ok, IsTrue, ⊤}
 use Rattle.std.specs.List.{All, list_any}
 use Rattle.epic_num.specs.declared.command.Command.{Command}
 use Rattle.epic_capture.specs.Records.{Captured}
 use Rattle.epic_capture.specs.Saving.{saved}
 use Rattle.epic_feed.specs.Forms.{records_in}
 use Rattle.epic_judging.specs.declared.judged.Judged.{Judged}
+use Rattle.epic_judging.specs.declared.judged.Judged.TheVariants.{Yes}
 use Rattle.epic_judging.specs.Judgment.{IsJudgment}
 use Rattle.epic_ports.specs.Files.{Files}
 use Rattle.epic_ports.specs.Written.{Appends}
+use Rattle.epic_record.specs.LedgerFile.{most_ledger}
 use Rattle.epic_record.specs.LedgerText.{ledger_text}
+use Rattle.epic_record.specs.VerdictFile.{most_verdicts}
+use Rattle.epic_record.specs.VerdictLines.{acceptances}
 use Rattle.epic_topo.specs.Network.{Network}
 use Rattle.epic_topo.specs.Reading.{topology as topology_of}
 use Rattle.epic_gen.specs.Script.{generated}
@@ -18,7 +22,7 @@ use Rattle.epic_gen.specs.Topology.{generated_network}
 use Rattle.epic_model.specs.State.{start}
 use Rattle.epic_text.specs.RunScript.{run_rule}
 use Rattle.epic_text.specs.Script.{commands_of}
-use Rattle.epic_world.specs.Run.{run, state_after}
+use Rattle.epic_world.specs.Run.{Done, run, state_after}
 use Rattle.epic_world.specs.Sound.{StateHolds, StepHolds}
 use Rattle.epic_app.specs.declared.hop_answer.HopAnswer.{HopAnswer}
 use Rattle.epic_app.specs.declared.hop_file.HopCommand.{HopCommand}
@@ -58,10 +62,19 @@ HoldsRecords None files records = records ≡ []
 HoldsRecords (Some name) files records =
     (bytes : List ℕ) × Holds files name bytes × (records_in bytes ≡ record { items = records; damage = None })
 
+-- Of the ledger file and the verdict file of these steps the judge says yes, with the number of what was accepted, where both files are
+-- within its limits.
+abbrev pub IsJudgedTrue : Network → List Done → Type 0
+IsJudgedTrue t steps =
+    length (ledger_text (items_told steps)) ≤ most_ledger
+    → length (verdicts_told t steps) ≤ most_verdicts
+    → IsJudgment t (ledger_text (items_told steps)) (verdicts_told t steps) (Ok (Yes (length (acceptances (items_told steps)))))
+
 -- The files hold a topology, commands and records; the lines are those of the steps of the commands and of the records. Each step goes on from a state that holds: the
 -- verdicts of its passages are true, each over the ledger before its passage, and honest packets are carried. So does the end of the
 -- run. Status 1 tells that a verdict says forged or collided. The saved file holds a capture of what was emitted,
--- the ledger file the lines of all that happened, and the verdict file the verdicts of what was accepted.
+-- the ledger file the lines of all that happened, and the verdict file the verdicts of what was accepted: the judge says yes of these
+-- two.
 pub record RunHolds (r : RunRequest) (old new : World) (status : ℕ) : Type 0 where
   pub text : List ℕ
   pub bytes : List ℕ
@@ -80,6 +93,7 @@ pub record RunHolds (r : RunRequest) (old new : World) (status : ℕ) : Type 0 w
   pub saved : Keeps r.save (saved (captured_by (run network (run_commands commands records)))) old.contents new.contents
   pub ledger : Keeps r.ledger (ledger_text (items_told (run network (run_commands commands records)))) old.contents new.contents
   pub verdicts : Keeps r.verdicts (verdicts_told network (run network (run_commands commands records))) old.contents new.contents
+  pub judged : IsJudgedTrue network (run network (run_commands commands records))
 
 -- The two lines are those of the generated commands' steps over the generated topology, whose text `run` reads as it. Each step goes on
 -- from a state that holds, and so does the end of the run, as for `run`. Status 1 tells that a verdict says forged or collided.

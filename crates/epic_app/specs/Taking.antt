@@ -6,6 +6,7 @@ use Rattle.epic_num.specs.declared.command.Command.{Command}
 use Rattle.epic_ports.specs.declared.error.PortError.{PortError}
 use Rattle.epic_text.specs.Counts.{total}
 use Rattle.epic_model.specs.World.{Fits}
+use Rattle.epic_rerun.specs.Rerun.{NamesFit}
 use Rattle.epic_world.specs.Run.{Done, run_from, state_after}
 use Rattle.epic_app.specs.declared.taking.Records.{Records}
 use Rattle.epic_app.specs.Acts.{Act, World, Does}
@@ -41,6 +42,7 @@ pub record Ran (x y : Records) (cs : List Command) (old new : World) : Type 0 wh
   pub acts : (before : List Done) → IsAfter x before → Does (acts_of x before cs) old new
   pub works : Works (kept_in x.keep) old new
   pub fits : All Fits cs
+  pub names_fit : All NamesFit cs
 
 -- less was done of these commands
 abbrev pub StopsIn : Records → List Command → PortError → World → World → Type 0

@@ -19,6 +19,7 @@ use epic_feed::Taker;
 use epic_num::{Bytes, Command, Place};
 use epic_policer::Policers;
 use epic_ports::{PortError, Sink, Store};
+use epic_rerun::names_fit;
 use epic_world::{World, fits};
 use std::alloc::Global;
 
@@ -92,6 +93,7 @@ impl Records<'_> {
         ensures reads { S.reads store.new ≡ S.reads store.old }
     {
         fits(command);
+        names_fit(command);
         match write_step(
             self.alloc,
             &mut self.world,

@@ -16,6 +16,7 @@ use crate::judge::judge;
 use crate::run::run;
 use epic_judging::judgments_are_decided;
 use epic_ports::{Sink, Store};
+use epic_rerun::{runs_are_judged_true, script_names_fit};
 use epic_text::commands_are_spelled;
 use epic_words::{Asked, WordsError, asked_for};
 use epic_world::runs_hold;
@@ -65,7 +66,7 @@ pub fn epic<S: Store, O: Sink, E: Sink>(
     // and segments are whole, and so does the end of the run. Each verdict of each passage is true
     // over the ledger before that passage, and Proved exactly where the provenance stands there;
     // honest packets are carried. A saved file is a capture of what was emitted, a ledger file has the
-    // lines of all that happened, and a verdict file those of all verdicts. In the report of
+    // lines of all that happened, and a verdict file those of all verdicts; the judge says yes of these two. In the report of
     // `hop` each `accept proved K` names an earlier issue of that body, each `accept forged` is a
     // right field of a body that no earlier line issued, and each refused field is wrong. The line of
     // `judge` says yes exactly where each verdict line is true over the ledger's lines before what it
@@ -93,6 +94,8 @@ pub fn epic<S: Store, O: Sink, E: Sink>(
     // What the reports of a run and of the judge claim rests on these laws.
     runs_hold();
     commands_are_spelled();
+    script_names_fit();
+    runs_are_judged_true();
     judgments_are_decided();
     let end = perform(alloc, words, store, out);
     tell(err, &end);

@@ -11,4 +11,4 @@ returns-clause-ends g c = rw c.status.ensures (ends_under (map string_bytes c.ar
 
 pub returns-clause-report_holds : goal.returns-clause-report_holds
 returns-clause-report_holds g c =
-    rw c.status.ensures (holds_under c.runs_hold.ensures c.commands_are_spelled.ensures c.judgments_are_decided.ensures (map string_bytes c.args.words.now) (request_of (map string_bytes c.args.words.now)) _ _ _ _ _ (few_requests (map string_bytes c.args.words.now)) (ends_under (map string_bytes c.args.words.now) (request_of (map string_bytes c.args.words.now)) _ _ _ _ _ c.perform-end.ensures c.tell.ensures))
+    rw c.status.ensures (holds_under c.runs_hold.ensures c.commands_are_spelled.ensures c.script_names_fit.ensures c.runs_are_judged_true.ensures c.judgments_are_decided.ensures (map string_bytes c.args.words.now) (request_of (map string_bytes c.args.words.now)) _ _ _ _ _ (few_requests (map string_bytes c.args.words.now)) (ends_under (map string_bytes c.args.words.now) (request_of (map string_bytes c.args.words.now)) _ _ _ _ _ c.perform-end.ensures c.tell.ensures))
