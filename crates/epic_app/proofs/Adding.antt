@@ -36,7 +36,8 @@ when_named None A B f is = tt
 when_named (Some name) A B f is = f is
 
 module _ (t : Network) (d : Done) where
-  saved_added : (o : Option Name) (text : List ℕ) → text ≡ saved_in d → added_to (named o) text ≡ flat_map (grown t d) (map saved_file (option_to_list (named o)))
+  saved_added : (o : Option Name) (text : List ℕ) → IfSome o (λ name. text ≡ saved_in d)
+      → added_to (named o) text ≡ flat_map (grown t d) (map saved_file (option_to_list (named o)))
   saved_added None text is = refl
   saved_added (Some name) text is = ap (appends name.now) is ∙ sym (append-nil (appends name.now (saved_in d)))
 
@@ -50,8 +51,8 @@ module _ (t : Network) (d : Done) where
   verdicts_added None text is = refl
   verdicts_added (Some name) text is = ap (appends name.now) is ∙ sym (append-nil (appends name.now (step_verdicts t d)))
 
-  adds_are : (k : Keeping) (saved ledger verdicts : List ℕ) → saved ≡ saved_in d → IfSome k.ledger (λ name. ledger ≡ step_ledger d)
-      → IfSome k.verdicts (λ name. verdicts ≡ step_verdicts t d) → all_added k saved ledger verdicts ≡ adding (kept_in k) t d
+  adds_are : (k : Keeping) (saved ledger verdicts : List ℕ) → IfSome k.save (λ name. saved ≡ saved_in d)
+      → IfSome k.ledger (λ name. ledger ≡ step_ledger d) → IfSome k.verdicts (λ name. verdicts ≡ step_verdicts t d) → all_added k saved ledger verdicts ≡ adding (kept_in k) t d
   unfolding adding files_of
   adds_are k saved ledger verdicts s l v =
       let f = grown t d in
@@ -63,7 +64,7 @@ module _ (t : Network) (d : Done) where
 
 -- the texts that a step makes are what it adds
 pub step_adds : (k : Keeping) (t : Network) (s : State) (c : Command) (saved ledger verdicts : List ℕ) (m : Mark) → m ≡ mark_of s.history
-    → saved ≡ flat_map saved_record (map (as_captured (next t s c).state.moment) (drop m.emissions (next t s c).state.history.emissions))
+    → IfSome k.save (λ name. saved ≡ flat_map saved_record (map (as_captured (next t s c).state.moment) (drop m.emissions (next t s c).state.history.emissions)))
     → IfSome k.ledger (λ name. ledger ≡ ledger_text (told_since (next t s c).state.history m (passes_after c (next t s c).answer (next t s c).state)))
     → IfSome k.verdicts (λ name. verdicts ≡ passes_verdicts t (passes_after c (next t s c).answer (next t s c).state))
     → all_added k saved ledger verdicts ≡ adding (kept_in k) t (done_by t s c)
@@ -72,7 +73,8 @@ step_adds k t s c saved ledger verdicts m marked saved_is ledger_is verdicts_is 
     let n : Stepped = next t s c in
     let passes = passes_after c n.answer n.state in
     adds_are t (done_by t s c) k saved ledger verdicts
-    (saved_is ∙ ap (λ (x : Mark). flat_map saved_record (map (as_captured n.state.moment) (drop x.emissions n.state.history.emissions))) marked)
+    (when_named k.save (saved ≡ flat_map saved_record (map (as_captured n.state.moment) (drop m.emissions n.state.history.emissions))) (saved ≡ saved_in (done_by t s c))
+    (λ is. is ∙ ap (λ (x : Mark). flat_map saved_record (map (as_captured n.state.moment) (drop x.emissions n.state.history.emissions))) marked) saved_is)
     (when_named k.ledger (ledger ≡ ledger_text (told_since n.state.history m passes)) (ledger ≡ step_ledger (done_by t s c))
     (λ is. is ∙ ap ledger_text (ap (λ (x : Mark). told_since n.state.history x passes) marked ∙ items_are t s c)) ledger_is)
     (when_named k.verdicts (verdicts ≡ passes_verdicts t passes) (verdicts ≡ step_verdicts t (done_by t s c)) (λ is. is ∙ verdicts_are t s c) verdicts_is)

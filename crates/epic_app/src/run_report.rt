@@ -28,7 +28,7 @@ ghost use Rattle.epic_app.specs.Writing.{Writes};
 use crate::judging::verdict_lines;
 use crate::keeping::{Added, Keeping, add_kept, open_kept};
 use crate::noting::answer_notes;
-use crate::saving::records_text;
+use crate::saving::saved_records;
 use crate::showing::Showing;
 use crate::telling::{Mark, held, ledger_lines};
 use crate::writing::write_text;
@@ -159,15 +159,16 @@ fn step_files(
     requires before { before.emissions ≤ length world.now.state.history.emissions }
     requires within { AreWithin world.now.state.history before (passes_after command.now answer.now world.now.state) }
     requires told { AreTold world.now.network (passes_after command.now answer.now world.now.state) }
-    ensures saved { IfOk result (λ r. r.saved.items
-        ≡ flat_map saved_record (map (as_captured world.now.state.moment) (drop before.emissions world.now.state.history.emissions))) }
+    ensures saved { IfOk result (λ r. IfSome keep.now.save (λ name. r.saved.items
+        ≡ flat_map saved_record (map (as_captured world.now.state.moment) (drop before.emissions world.now.state.history.emissions)))) }
     ensures ledger { IfOk result (λ r. IfSome keep.now.ledger (λ name. r.ledger.items
         ≡ ledger_text (told_since world.now.state.history before (passes_after command.now answer.now world.now.state)))) }
     ensures verdicts { IfOk result (λ r. IfSome keep.now.verdicts (λ name. r.verdicts.items
         ≡ passes_verdicts world.now.network (passes_after command.now answer.now world.now.state))) }
 {
-    let Ok(saved) = records_text(alloc, world.ledger(), before.emissions, world.now()) else {
-        return Err(OutOfMemory);
+    let saved = match keep.save {
+        Some(_) => saved_records(alloc, world, before.emissions)?,
+        None => Vec::new(alloc),
     };
     let ledger = match keep.ledger {
         Some(_) => ledger_lines(alloc, world, before, command, answer)?,

@@ -8,7 +8,8 @@ ghost use Rattle.epic_app.specs.Saved.{as_captured};
 
 use epic_capture::record_head;
 use epic_ledger::Ledger;
-use epic_num::Place;
+use epic_num::{OutOfMemory, Place};
+use epic_world::World;
 use std::alloc::{AllocError, Global};
 
 /// Appends a record of a packet at a moment, in microseconds.
@@ -24,7 +25,7 @@ fn push_record(to: &mut Vec<u8>, moment: u64, place: &Place, bytes: &[u8]) -> Re
 }
 
 /// The records of the emissions behind the first `before`, at a moment in microseconds.
-pub fn records_text(
+fn records_text(
     alloc: Global,
     ledger: &Ledger,
     before: u32,
@@ -44,4 +45,16 @@ pub fn records_text(
         }
     }
     Ok(text)
+}
+
+/// The records of what a step emitted, over the world after it. So much was emitted before.
+pub fn saved_records(alloc: Global, world: &World, before: u32) -> Result<Vec<u8>, OutOfMemory>
+    requires { before ≤ length world.now.state.history.emissions }
+    ensures { IfOk result (λ text. text.items ≡
+        flat_map saved_record (map (as_captured world.now.state.moment) (drop before world.now.state.history.emissions))) }
+{
+    match records_text(alloc, world.ledger(), before, world.now()) {
+        Ok(text) => Ok(text),
+        Err(_) => Err(OutOfMemory),
+    }
 }
